@@ -1,0 +1,3 @@
+pub mod Lines
+pub mod Errors
+pub mod Listings

@@ -1,0 +1,4 @@
+pub mod Parts
+pub mod Turns
+pub mod Joins
+pub mod Places

@@ -1,0 +1,5 @@
+pub mod Rules
+pub mod Ranges
+pub mod Ahead
+pub mod Steps
+pub mod Laws
