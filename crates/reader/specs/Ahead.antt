@@ -38,7 +38,7 @@ abbrev pub Numbered : {E : Type 0} → Piece → ℕ → Result (Unit {0}) E →
 Numbered c p (Ok _) c′ = (p + length (c .rest .now) < 2 ^ 64) × (c′ .place ≡ p) × (c′ .rest .now ≡ c .rest .now) × (c′ .pending ≡ c .pending)
 Numbered c p (Err _) c′ = (2 ^ 64 ≤ p + length (c .rest .now)) × (c′ ≡ c)
 
--- the next item is the first of what is ahead; there is none just where nothing is ahead, and the state is then the last
+-- the next item is the first of what is ahead; it is missing just where the piece is read out, which leaves the last state
 abbrev pub Next : State → Piece → Option Item → State → Piece → Type 0
 Next st c None st′ c′ = (ahead st c ≡ []) × (st′ ≡ ending st c) × (ahead st′ c′ ≡ []) × (ending st′ c′ ≡ st′)
 Next st c (Some x) st′ c′ = (ahead st c ≡ read-as x ∷ ahead st′ c′) × (ending st c ≡ ending st′ c′) × (at-most c′ < at-most c)

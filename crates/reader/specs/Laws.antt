@@ -66,7 +66,7 @@ note-ons [] = []
 note-ons (message p x ∷ rs) = if-note-on p x (note-ons rs)
 note-ons (part p xs ∷ rs) = note-ons rs
 
--- the Note-ons of several pieces are those of the pieces joined
+-- cutting a stream into pieces neither adds nor loses a Note-on, and moves none
 abbrev pub Note-ons-join : Type 0
 Note-ons-join = (st : State) (p : ℕ) (pieces : List (List ℕ)) → note-ons (reads-each st p pieces) ≡ note-ons (reads st p (concat pieces))
 

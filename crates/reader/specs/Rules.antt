@@ -21,7 +21,7 @@ class b =
 
 -- ---- what a byte gives
 
--- a Note-on with velocity 0 is a Note-off with velocity 64
+-- velocity 0 makes a Note-on a Note-off, with velocity 64
 abbrev pub note-on : ℕ → ℕ → ℕ → Message
 note-on c k v = cond (eqb v 0) (m.NoteOff c k 64) (m.NoteOn c k v)
 

@@ -56,8 +56,8 @@ pub enum Message {
     },
 }
 
-// What the reader hands out: a message with the place of the byte that completes it, or a run of
-// an exclusive's data bytes, as that part of the piece itself, with the place of its first byte.
+// What the reader hands out: a message with the place of its last byte, or a run of an exclusive's
+// data bytes, borrowed from the piece, with the place of the first of them.
 #[derive(Clone, Copy, Debug)]
 pub enum Item<'p> {
     Message { place: u64, message: Message },

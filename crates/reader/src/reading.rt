@@ -275,7 +275,7 @@ fn pair(status: u8, first: u8, second: u8) -> Message
     }
 }
 
-// A Note-on; with velocity 0 it is a Note-off with velocity 64.
+// A Note-on, or at velocity 0 the Note-off that it stands for.
 fn note_on(channel: u8, key: u8, velocity: u8) -> Message
     requires channel { ⌜ channel < 16 ⌝ }
     requires key { ⌜ key < 0x80 ⌝ }

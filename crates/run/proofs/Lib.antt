@@ -1,0 +1,4 @@
+pub mod Turns
+pub mod Tables
+pub mod Notes
+pub mod Left

@@ -1,0 +1,4 @@
+pub mod Lines
+pub mod Serials
+pub mod Log
+pub mod Text
