@@ -1,4 +1,6 @@
 // What the ends have in common: how much they use of the memory that they are handed, which calls they refuse, and the law of their tickets.
+#![tactic(auto)]
+
 ghost use Rattle.std.specs.Prelude.{◌≡◌, min};
 
 // The most places that an end uses.

@@ -1,4 +1,6 @@
 // Plays the rows of the question through a unit, and prints which pipes speak after each.
+#![tactic(auto)]
+
 use exam_table::sheet::answer_sheet;
 
 fn main(rt: HostRuntime) -> anyhow::Result<()> {

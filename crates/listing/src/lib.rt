@@ -1,4 +1,6 @@
 // Lists a byte stream: one line of text for each item.
+#![tactic(auto)]
+
 ghost use Rattle.std.specs.Prelude.{◌≡◌, IfOk, string_bytes, OnOk};
 ghost use Rattle.reader.specs.Ahead.{ahead, ending};
 ghost use Rattle.reader.specs.declared.states.State.TheVariants.{Idle};

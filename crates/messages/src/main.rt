@@ -1,4 +1,6 @@
 // Lists the messages of a MIDI byte stream on standard input, one line each, as they come.
+#![tactic(auto)]
+
 use listing::Listing;
 use std::io::Read;
 

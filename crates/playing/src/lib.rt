@@ -1,4 +1,6 @@
 // Plays a whole byte stream through a stack, from opening to closing.
+#![tactic(auto)]
+
 ghost use Rattle.std.specs.Prelude.{◌≡◌, ◌≤◌, take, vec_len};
 ghost use Rattle.sink.specs.Meaning.{Idle};
 ghost use Rattle.voice_log.specs.Lines.{Clean, Complete};

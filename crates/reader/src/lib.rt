@@ -1,4 +1,6 @@
 // Reads a MIDI 1.0 byte stream: every message with its place.
+#![tactic(auto)]
+
 ghost use Rattle.std.specs.Prelude.{◌≡◌, true};
 ghost use Rattle.reader.specs.Ranges.{attained};
 

@@ -1,4 +1,6 @@
 // Examples of reading and listing, as tests.
+#![tactic(auto)]
+
 #[cfg(test)]
 mod tests {
     use listing::Listing;

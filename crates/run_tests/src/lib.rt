@@ -1,4 +1,6 @@
 // Examples of runs, as tests.
+#![tactic(auto)]
+
 #[cfg(test)]
 mod tests {
     use playing::log;

@@ -1,4 +1,6 @@
 // Reads the lines of a console script.
+#![tactic(auto)]
+
 ghost use Rattle.std.specs.Prelude.{◌≡◌, IfOk};
 ghost use Rattle.script.specs.Meanings.{meant};
 ghost use Rattle.script.specs.Lines.{says};

@@ -1,4 +1,6 @@
 // Examples of script lines, as tests.
+#![tactic(auto)]
+
 #[cfg(test)]
 mod tests {
     use script::{Act, Line, read_line};

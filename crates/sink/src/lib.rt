@@ -1,4 +1,6 @@
 // What a sink means: the trait that every layer and every end keeps, and the refusals that it answers.
+#![tactic(auto)]
+
 pub mod fault;
 pub mod ranges;
 pub mod sink;

@@ -1,4 +1,6 @@
 // Two ways to use a run that the compiler would not let go wrong: losing a slip, and feeding a closed run.
+#![tactic(auto)]
+
 ghost use Rattle.sink.specs.Meaning.{Idle};
 ghost use Rattle.voice_log.specs.Log.{LogSound, log_meaning};
 ghost use Rattle.playing.specs.Plays.{Fed};

@@ -1,3 +1,5 @@
 // The two stacks that the programs play through.
+#![tactic(auto)]
+
 pub mod console_stack;
 pub mod voice_stack;

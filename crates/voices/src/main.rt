@@ -1,4 +1,6 @@
 // Plays the MIDI byte stream on standard input into a voice log of 2,048 lines, and prints the lines.
+#![tactic(auto)]
+
 use playing::log;
 use playing::text::text;
 use std::io::Read;
