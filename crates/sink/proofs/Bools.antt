@@ -1,5 +1,5 @@
 -- Small facts on truth values.
-use Rattle.std.proofs.Common.{◌≡◌, ℕ, zero, suc, Bool, true, false, not, ◌&&◌, ◌||◌, eqb, sym, refl, ap, ◌∙◌, subst, eq-eqb, eqb-true}
+use Rattle.std.proofs.Common.{◌≡◌, ℕ, Bool, true, false, not, ◌&&◌, ◌||◌, eqb, sym, refl, ap, ◌∙◌, subst, eq-eqb, eqb-true}
 use borrow.Author.Tests.{both_ways}
 
 pub clash : {A : Type 0} (b : Bool) → b ≡ true → b ≡ false → A

@@ -1,13 +1,11 @@
 -- A layer that has made its own checks and hands a call on has its meaning, if the sink below has its own.
-use Rattle.std.proofs.Common.{◌≡◌, ℕ, ◌<◌, ◌≤◌, Bool, true, false, not, ◌&&◌, ◌||◌, eqb, leb, ℤ, sym, refl, ap, ◌∙◌, subst, ap₂, eqb-true}
+use Rattle.std.proofs.Common.{◌≡◌, ℕ, Bool, true, false, not, ◌&&◌, ◌||◌, eqb, leb, ℤ, sym, refl, ap, ◌∙◌, subst, ap₂, eqb-true}
 use Rattle.std.proofs.lemmas.Bool.{and_parts, or_parts, or_from, not-true}
 use Rattle.sink.specs.Faults.{Denial, here, deeper, layer_denial}
 use Rattle.sink.specs.Calls.{Call, Start, Release, Hush, Tell, Set, Clear, Answer, ticket, done, denied, startable, tellable}
 use Rattle.sink.specs.Meaning.{Meaning, Readiness, is_ready, refuses, Orderly, Began, Ended, Hushed, Quieter, Cleared, Denied, Means}
 use Rattle.sink.specs.Layered.{passed, ready_over, layered, Refused}
 use Rattle.sink.specs.declared.fault.Cause.TheVariants.{AllOut}
-use Rattle.sink.specs.declared.fault.LayerFault.{LayerFault}
-use Rattle.sink.specs.declared.fault.LayerFault.TheVariants.{Below}
 use Rattle.sink.proofs.Bools.{clash, refuted, without_swap, joined_without, covered, uncovered, or_steps}
 
 -- A refusal has the meaning that it has where it leaves the state.

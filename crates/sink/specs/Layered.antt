@@ -1,7 +1,7 @@
 -- What a layer means over the sink below, and how it hands a call on.
-use Rattle.std.specs.Prelude.{◌≡◌, ℕ, Bool, true, false, cond, not, ◌&&◌, ◌||◌, leb}
-use Rattle.sink.specs.Faults.{Denial, here, deeper}
-use Rattle.sink.specs.Calls.{Call, Start, Release, Hush, Tell, Set, Clear, Answer, ticket, done, denied, startable, tellable}
+use Rattle.std.specs.Prelude.{◌≡◌, ℕ, Bool, cond, not, ◌&&◌, ◌||◌}
+use Rattle.sink.specs.Faults.{here, deeper}
+use Rattle.sink.specs.Calls.{Call, Answer, ticket, done, denied}
 use Rattle.sink.specs.Meaning.{Readiness, is_ready, refuses, Meaning}
 use Rattle.sink.specs.declared.fault.Cause.TheVariants.{AllOut}
 use Rattle.sink.specs.declared.fault.LayerFault.{LayerFault}

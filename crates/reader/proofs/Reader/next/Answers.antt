@@ -1,4 +1,4 @@
-use Rattle.std.proofs.Common.{◌≡◌, ◌≤◌, length, sym, subst, arith, length_drop, true-eqb}
+use Rattle.std.proofs.Common.{◌≡◌, ◌≤◌, length, sym, subst, arith, length-drop, true-eqb}
 use Rattle.std.proofs.lemmas.List.{length-take}
 use Rattle.reader.specs.Ranges.{InRange}
 use Rattle.reader.proofs.Turns.{first, again, state_on, at_most_one, over}
@@ -13,7 +13,7 @@ returns-in-Some-first c =
       next = (
         first _ c.loop-self.piece.pending c.take-taken.result.first c.take-taken.result.second c.loop-self.self.state c.take-taken.new.self.state c.loop-self.piece.place c.take-taken.result.count c.loop-self.piece.rest.now inv.0 inv.1 told.items c.in-Some-first.item c.in-Some-first.is,
         sym (state_on _ c.loop-self.self.state c.take-taken.new.self.state c.take-taken.result.count c.loop-self.piece.rest.now inv.2 told.state),
-        simp (length-take, length_drop) (omega (arith, inv.3, told.low, told.high, few)),
+        simp (length-take, length-drop) (omega (arith, inv.3, told.low, told.high, few)),
       );
       ranged = subst InRange c.in-Some-first.is told.ranged;
     }
@@ -23,9 +23,9 @@ loop-self-preserved c =
     let inv = c.loop-self.invariant in
     let told = c.take-taken.ensures in (
       inv.0,
-      again _ c.loop-self.piece.pending c.take-taken.result.first c.take-taken.result.second c.loop-self.self.state c.take-taken.new.self.state c.loop-self.piece.place c.take-taken.result.count c.loop-self.piece.rest.now inv.0 inv.1 told.items c.in-default-first.is (told.order c.in-default-first.is),
+      again _ c.loop-self.piece.pending c.take-taken.result.first c.take-taken.result.second c.loop-self.self.state c.take-taken.new.self.state c.loop-self.piece.place c.take-taken.result.count c.loop-self.piece.rest.now inv.0 inv.1 told.items c.in_default-first.is (told.order c.in_default-first.is),
       state_on _ c.loop-self.self.state c.take-taken.new.self.state c.take-taken.result.count c.loop-self.piece.rest.now inv.2 told.state,
-      simp (length-take, length_drop) (omega (arith, inv.3, told.high)),
+      simp (length-take, length-drop) (omega (arith, inv.3, told.high)),
     )
 
 pub returns : goal.returns

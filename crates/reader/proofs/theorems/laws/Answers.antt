@@ -5,7 +5,7 @@ use Rattle.reader.proofs.theorems.laws.Goals as goal
 
 pub returns : goal.returns
 returns c = record {
-  two-pieces = two_pieces_join;
+  two_pieces = two_pieces_join;
   pieces = pieces_join;
   note_ons_of = note_ons_join;
   real_time = real_time_apart;

@@ -15,8 +15,8 @@ loop-i-preserved c =
     elim c.if-stays.branch [
       | then-stays w ↦
           let st = stays_step (picked c.args.pick) c.args.self.now.notes c.loop-i.self.notes c.loop-i.stay c.loop-i.i blank (omega arith) (omega arith) c.loop-i.invariant.0 c.loop-i.invariant.2 c.loop-i.invariant.3 (sym w.if-stays.ensures) in
-          let count = ap (λ (r : Roll). r.count) w.self-is ∙ w.move-note.ensures.count ∙ c.loop-i.invariant.1 in
-          let notes = ap (λ (r : Roll). r.notes) w.self-is ∙ w.move-note.ensures.notes in
+          let count = ap (λ (r : Roll). r.count) w.self-is ∙ w.move_note.ensures.count ∙ c.loop-i.invariant.1 in
+          let notes = ap (λ (r : Roll). r.notes) w.self-is ∙ w.move_note.ensures.notes in
           (omega (arith, w.stay-is), count, ap₂ take w.stay-is notes ∙ st.0, ap (drop (c.loop-i.i + 1)) notes ∙ st.1)
       | else-stays w ↦
           let st = dropped_step (picked c.args.pick) c.args.self.now.notes c.loop-i.self.notes c.loop-i.stay c.loop-i.i blank (omega arith) (omega arith) c.loop-i.invariant.0 c.loop-i.invariant.2 c.loop-i.invariant.3 (sym w.if-stays.ensures) in

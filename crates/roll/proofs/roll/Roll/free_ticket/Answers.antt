@@ -6,7 +6,7 @@ use Rattle.roll.proofs.roll.Roll.free_ticket.Goals as goal
 
 pub loop-ticket-preserved : goal.loop-ticket-preserved
 loop-ticket-preserved c =
-    below_more _ _ c.loop-ticket.invariant (sym (found_lists c.loop-ticket.ticket (listed c.args.self.now)) ∙ ap is_some (sym c.find.ensures) ∙ c.if-is-none.ensures)
+    below_more _ _ c.loop-ticket.invariant (sym (found_lists c.loop-ticket.ticket (listed c.args.self.now)) ∙ ap is_some (sym c.find.ensures) ∙ c.if-is_none.ensures)
 
 pub returns-then-is-none : goal.returns-then-is-none
 returns-then-is-none c = record {
