@@ -20,7 +20,7 @@ module _ {S F : Type 0} (sees : F → Denial) (meaning : S → Meaning) (sound :
       record {
         told = record {
           count = ap (λ t. t.count) answered ∙ count;
-          note_ons_of = ap (λ t. t.note_ons) answered ∙ agree.note_ons_of;
+          note_ons = ap (λ t. t.note_ons) answered ∙ agree.note_ons;
           starts = subst (λ t. t.note_ons ≡ t.taken + t.denied) (sym answered) agree.starts;
           even = end.3.rests.even;
         };

@@ -125,7 +125,7 @@ module _ {S F : Type 0} (sees : F → Denial) (meaning : S → Meaning) (sound :
 
   -- only what is not spoken of is counted
   record Plain (f : Counts F → Counts F) : Type 0 where
-    note_ons_of : (y : Counts F) → (f y).note_ons ≡ y.note_ons
+    note_ons : (y : Counts F) → (f y).note_ons ≡ y.note_ons
     taken : (y : Counts F) → (f y).taken ≡ y.taken
     denied : (y : Counts F) → (f y).denied ≡ y.denied
     returned : (y : Counts F) → (f y).returned ≡ y.returned
@@ -137,24 +137,24 @@ module _ {S F : Type 0} (sees : F → Denial) (meaning : S → Meaning) (sound :
             (record {
               healthy = subst sound (sym noted.stack) good.healthy;
               owes = subst (λ p. Owes (meaning p) b.table) (sym noted.stack) good.owes;
-              starts = omega (arith, good.starts, plain.note_ons_of y, plain.taken y, plain.denied y);
+              starts = omega (arith, good.starts, plain.note_ons y, plain.taken y, plain.denied y);
               tickets = omega (arith, good.tickets, plain.taken y, plain.returned y);
               taken = plain.taken y ∙ good.taken;
               denied = plain.denied y ∙ good.denied;
               returned = plain.returned y ∙ good.returned;
               fair = good.fair;
             }),
-        omega (arith, ap (λ z. z.note_ons) noted.counts, plain.note_ons_of y),
+        omega (arith, ap (λ z. z.note_ons) noted.counts, plain.note_ons y),
       )
 
   plain_same : Plain unchanged
-  plain_same = record { note_ons_of = λ y. refl; taken = λ y. refl; denied = λ y. refl; returned = λ y. refl }
+  plain_same = record { note_ons = λ y. refl; taken = λ y. refl; denied = λ y. refl; returned = λ y. refl }
 
   plain_stray : Plain strayed
-  plain_stray = record { note_ons_of = λ y. refl; taken = λ y. refl; denied = λ y. refl; returned = λ y. refl }
+  plain_stray = record { note_ons = λ y. refl; taken = λ y. refl; denied = λ y. refl; returned = λ y. refl }
 
   plain_passed : Plain passed_over
-  plain_passed = record { note_ons_of = λ y. refl; taken = λ y. refl; denied = λ y. refl; returned = λ y. refl }
+  plain_passed = record { note_ons = λ y. refl; taken = λ y. refl; denied = λ y. refl; returned = λ y. refl }
 
   -- ---- a ticket given back
 
@@ -360,7 +360,7 @@ module _ {S F : Type 0} (sees : F → Denial) (meaning : S → Meaning) (sound :
       stands_by : (b : Player S F) (bytes : List ℕ) (es : List (Event F)) → GoodAt b es → b.counts.note_ons ≡ on_counts (reads s.Idle 0 bytes) → Stands sees meaning sound does ends b bytes es
       stands_by b bytes es good ons = record {
         owes = good.owes;
-        agree = record { note_ons_of = ons; starts = good.starts; tickets = good.tickets; taken = good.taken; denied = good.denied; returned = good.returned; fair = good.fair };
+        agree = record { note_ons = ons; starts = good.starts; tickets = good.tickets; taken = good.taken; denied = good.denied; returned = good.returned; fair = good.fair };
         clean = cleanly b.stack good.healthy;
       }
 

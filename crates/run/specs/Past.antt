@@ -66,7 +66,7 @@ pub record Owes (m : Meaning) (T : List (Option ℕ)) : Type 0 where
 
 -- the counts agree with the bytes, the table and the events
 pub record Agree {F : Type 0} (sees : F → Denial) (y : Counts F) (T : List (Option ℕ)) (bytes : List ℕ) (es : List (Event F)) : Type 0 where
-  pub note_ons_of : y.note_ons ≡ length (note_ons_of (reads s.Idle 0 bytes))
+  pub note_ons : y.note_ons ≡ length (note_ons_of (reads s.Idle 0 bytes))
   pub starts : y.note_ons ≡ y.taken + y.denied
   pub tickets : y.taken ≡ y.returned + tickets T
   pub taken : y.taken ≡ number taken_in es

@@ -4,11 +4,11 @@ use Rattle.exam_table.proofs.sitting.log.Goals as goal
 
 pub returns : goal.returns
 returns c =
-    let new = c.exam-stack.ensures in
+    let new = c.exam_stack.ensures in
     let out = c.unstack.ensures in
     record {
       logs = record {
-        stack = c.exam-stack.result;
+        stack = c.exam_stack.result;
         left = c.play.result;
         new = new.new;
         plays = c.play.ensures;
@@ -16,5 +16,5 @@ returns c =
         lines_are = ap vec_items out.lines;
       };
       within = out.within;
-      exact = λ room. ap₂ take out.written (ap vec_items out.lines) ∙ logged (vec_items c.args.lines) c.exam-stack.result c.play.result new.new new.rests (omega (arith, c.args.lines.ok.0)) c.play.ensures;
+      exact = λ room. ap₂ take out.written (ap vec_items out.lines) ∙ logged (vec_items c.args.lines) c.exam_stack.result c.play.result new.new new.rests (omega (arith, c.args.lines.ok.0)) c.play.ensures;
     }

@@ -7,7 +7,7 @@ pub returns : goal.returns
 returns c = record {
   two_pieces = two_pieces_join;
   pieces = pieces_join;
-  note_ons_of = note_ons_join;
+  note_ons = note_ons_join;
   real_time = real_time_apart;
   places = places_rise;
   examples = (refl, refl, refl);

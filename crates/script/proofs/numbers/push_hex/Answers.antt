@@ -3,10 +3,10 @@ use Rattle.std.proofs.lemmas.Bool.{ltb-true, ltb-false}
 use Rattle.script.proofs.Bytes.{byte_more, no_byte, refused, at_end}
 use Rattle.script.proofs.numbers.push_hex.Goals as goal
 
-pub returns-in-default-hex-byte : goal.returns-in-default-hex-byte
-returns-in-default-hex-byte c =
+pub returns-in_default-hex_byte : goal.returns-in_default-hex_byte
+returns-in_default-hex_byte c =
     let some : 2 ≤ length c.loop-rest.rest.now = omega (arith, ltb-false) in
-    refused _ _ _ (sym c.loop-rest.invariant ∙ no_byte c.loop-rest.rest.now _ some c.in-default-hex-byte.ensures)
+    refused _ _ _ (sym c.loop-rest.invariant ∙ no_byte c.loop-rest.rest.now _ some c.in_default-hex_byte.ensures)
 
 pub loop-rest-preserved : goal.loop-rest-preserved
 loop-rest-preserved c =

@@ -5,10 +5,10 @@ use Rattle.byte_writer.specs.Writer.{written_at, stop_messages}
 use Rattle.byte_writer.specs.Places.{nothing_written}
 use Rattle.byte_writer.proofs.writer.ByteWriter.write_off.Goals as goal
 
-pub returns-in-default : goal.returns-in-default
-returns-in-default c =
+pub returns-in_default : goal.returns-in_default
+returns-in_default c =
     let s = c.args.self.now in
-    let silent : c.args.voice ≡ None = c.in-default.is in
+    let silent : c.args.voice ≡ None = c.in_default.is in
     let none = ap (λ x. one (is_some x)) silent in
     let no_bytes = ap (λ x. length (bytes_of (stop_messages x c.args.velocity))) silent in
     record {

@@ -11,15 +11,15 @@ loop-key-preserved g c plain =
     let keys = c.args.self.now.0.now in
     let i = c.loop-key.key-index in
     let next : List ℕ = codes " " ++ decimal (get_or keys i 0) in
-    has_written_of_eq g.W.Write.write_str_gives c.write-str-2.new.self (keys_text (take i keys) ++ next) (keys_text (take (i + 1) keys)) c.write.new.self
+    has_written_of_eq g.W.Write.write_str_gives c.write_str-2.new.self (keys_text (take i keys) ++ next) (keys_text (take (i + 1) keys)) c.write.new.self
     (text_more keys i c.loop-key-test.true)
-    (has_written_append g.W.Write.write_str_gives c.write-str-2.new.self (keys_text (take i keys)) c.loop-key.f next c.write.new.self before (c.in-ok-write.ensures.shows before.plain refl))
+    (has_written_append g.W.Write.write_str_gives c.write_str-2.new.self (keys_text (take i keys)) c.loop-key.f next c.write.new.self before (c.in-ok-write.ensures.shows before.plain refl))
 
 pub returns-clause-writes : goal.returns-clause-writes
 returns-clause-writes g c plain ok =
-    let word = c.in-ok-write-str.ensures.writes plain refl in
+    let word = c.in-ok-write_str.ensures.writes plain refl in
     let keys = c.args.self.now.0.now in
     let written = keys_text (take c.loop-key.key-index keys) in
     has_written_of_eq g.W.Write.write_str_gives c.args.f.now (codes "pipe" ++ written) (pipes_text keys) c.loop-key.f
-    (ap (λ ks. codes "pipe" ++ keys_text ks) (take_all _ _ c.loop-key-test.false) ∙ pipes_some keys (sym c.if-is-empty.ensures))
-    (has_written_append g.W.Write.write_str_gives c.args.f.now (codes "pipe") c.write-str-2.new.self written c.loop-key.f word (c.loop-key.invariant word.plain))
+    (ap (λ ks. codes "pipe" ++ keys_text ks) (take_all _ _ c.loop-key-test.false) ∙ pipes_some keys (sym c.if-is_empty.ensures))
+    (has_written_append g.W.Write.write_str_gives c.args.f.now (codes "pipe") c.write_str-2.new.self written c.loop-key.f word (c.loop-key.invariant word.plain))

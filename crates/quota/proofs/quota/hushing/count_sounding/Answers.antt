@@ -11,8 +11,8 @@ pub loop-i-init : goal.loop-i-init
 unfolding left_out
 loop-i-init g c = (omega arith, refl)
 
-pub overflow-add-count : goal.overflow-add-count
-overflow-add-count g c = let le = c.loop-i.invariant.0 in search rules
+pub overflow_add-count : goal.overflow_add-count
+overflow_add-count g c = let le = c.loop-i.invariant.0 in search rules
 
 pub loop-i-preserved : goal.loop-i-preserved
 loop-i-preserved g c =

@@ -8,10 +8,10 @@ pub loop-ticket-preserved : goal.loop-ticket-preserved
 loop-ticket-preserved c =
     below_more _ _ c.loop-ticket.invariant (sym (found_lists c.loop-ticket.ticket (listed c.args.self.now)) ∙ ap is_some (sym c.find.ensures) ∙ c.if-is_none.ensures)
 
-pub returns-then-is-none : goal.returns-then-is-none
-returns-then-is-none c = record {
+pub returns-then-is_none : goal.returns-then-is_none
+returns-then-is_none c = record {
   small = omega arith;
-  fresh = λ _. sym (found_lists c.loop-ticket.ticket (listed c.args.self.now)) ∙ ap is_some (sym c.find.ensures) ∙ c.if-is-none.ensures;
+  fresh = λ _. sym (found_lists c.loop-ticket.ticket (listed c.args.self.now)) ∙ ap is_some (sym c.find.ensures) ∙ c.if-is_none.ensures;
   least = c.loop-ticket.invariant;
 }
 

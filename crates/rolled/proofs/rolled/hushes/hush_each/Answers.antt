@@ -11,7 +11,7 @@ unfolding tickets_of
 loop-i-init g c = no_hush
 
 pub loop-i-preserved : goal.loop-i-preserved
-loop-i-preserved g c = hushes_next c.args.pick (listed c.args.roll.now) c.loop-i.i (omega arith) g.S.Sink.meaning g.S.Sink.does c.args.place c.args.below.now c.loop-i.below c.loop-i.invariant c.hush-at.new.below c.hush-at.ensures
+loop-i-preserved g c = hushes_next c.args.pick (listed c.args.roll.now) c.loop-i.i (omega arith) g.S.Sink.meaning g.S.Sink.does c.args.place c.args.below.now c.loop-i.below c.loop-i.invariant c.hush_at.new.below c.hush_at.ensures
 
 pub returns : goal.returns
 returns g c =

@@ -11,7 +11,7 @@ unfolding tickets_of
 loop-i-init g c = no_release
 
 pub loop-i-preserved : goal.loop-i-preserved
-loop-i-preserved g c = releases_next c.args.pick (listed c.args.roll.now) c.loop-i.i (omega arith) g.S.Sink.does c.args.place c.args.below.now c.loop-i.below c.loop-i.invariant c.release-at.new.below c.release-at.ensures
+loop-i-preserved g c = releases_next c.args.pick (listed c.args.roll.now) c.loop-i.i (omega arith) g.S.Sink.does c.args.place c.args.below.now c.loop-i.below c.loop-i.invariant c.release_at.new.below c.release_at.ensures
 
 pub returns : goal.returns
 returns g c =

@@ -7,7 +7,7 @@ use Rattle.run.proofs.player.Player.give_back.Goals as goal
 pub returns : goal.returns
 returns g c =
     let out = c.vacate.ensures in
-    let counted = c.count-release.ensures in
+    let counted = c.count_release.ensures in
     let answer = finished c.release-answer.result in
     record {
       returned = (

@@ -8,7 +8,7 @@ pub loop-item-init : goal.loop-item-init
 loop-item-init g c =
     let numbered = c.in-Ok.ensures in
     let long = ap length (numbered.2 ∙ c.new-piece.ensures.rest) in
-    let none = none_listed c.number-from.new.self.pending (numbered.3 ∙ c.new-piece.ensures.pending) in
+    let none = none_listed c.number_from.new.self.pending (numbered.3 ∙ c.new-piece.ensures.pending) in
     (refl, omega (arith, long, none, c.args.self.now.bounded), refl, ([], [], played_none, refl))
 
 pub loop-item-preserved : goal.loop-item-preserved

@@ -8,9 +8,9 @@ use Rattle.scripting.proofs.console.Console.close.Goals as goal
 
 pub returns : goal.returns
 returns c =
-    let parts = c.into-bytes-bytes.ensures in
+    let parts = c.into_bytes-bytes.ensures in
     let past = c.args.self.played in
-    let out : List ℕ = take c.into-bytes-bytes.result.1 (vec_items c.into-bytes-bytes.result.0) in
+    let out : List ℕ = take c.into_bytes-bytes.result.1 (vec_items c.into_bytes-bytes.result.0) in
     record {
       closes = record {
         left = c.close-stack.result.1;

@@ -2,8 +2,8 @@ use Rattle.std.proofs.Common.{Ok, Err, refl}
 use Rattle.scripting.proofs.Pasts.{fed_past}
 use Rattle.scripting.proofs.console.Console.feed.Goals as goal
 
-pub invariant-of-self : goal.invariant-of-self
-invariant-of-self c = (fed_past c.args.self.now.run c.feed.new.self c.args.bytes.now c.feed.result c.feed.ensures c.args.self.now.played, tt)
+pub invariant_of-self : goal.invariant_of-self
+invariant_of-self c = (fed_past c.args.self.now.run c.feed.new.self c.args.bytes.now c.feed.result c.feed.ensures c.args.self.now.played, tt)
 
 pub returns-in-Ok : goal.returns-in-Ok
 returns-in-Ok c = record { taken = Ok tt; feeds = c.in-Ok.ensures; answer = refl }

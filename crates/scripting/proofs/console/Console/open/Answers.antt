@@ -2,6 +2,6 @@ use Rattle.std.proofs.Common.{[]}
 use Rattle.run.specs.Past.{opened}
 use Rattle.scripting.proofs.console.Console.open.Goals as goal
 
-pub invariant-of-result : goal.invariant-of-result
-invariant-of-result c =
-    (∣ ([], [], opened c.console-stack.result c.console-stack.ensures.sound c.console-stack.ensures.idle c.open-run.ensures) ∣₁, tt)
+pub invariant_of-result : goal.invariant_of-result
+invariant_of-result c =
+    (∣ ([], [], opened c.console_stack.result c.console_stack.ensures.sound c.console_stack.ensures.idle c.open-run.ensures) ∣₁, tt)

@@ -5,8 +5,8 @@ use Rattle.scripting.specs.Consoles.{SetsRun}
 use Rattle.scripting.proofs.Pasts.{set_past}
 use Rattle.scripting.proofs.console.Console.set.Goals as goal
 
-pub invariant-of-self : goal.invariant-of-self
-invariant-of-self c =
+pub invariant_of-self : goal.invariant_of-self
+invariant_of-self c =
     let sets = subst (λ v. SetsRun c.args.depth c.args.item v c.args.self.now.run (finished c.set.result) c.set.new.self) (to_z-of_z w32 c.args.value c.ranges.value) c.set.ensures in
     (set_past c.args.self.now.run c.set.new.self c.args.depth c.args.item c.args.value (finished c.set.result) sets c.args.self.now.played, tt)
 

@@ -6,12 +6,12 @@ use Rattle.voice_log.proofs.log.VoiceLog.free_ticket.Goals as goal
 
 pub loop-ticket-preserved : goal.loop-ticket-preserved
 loop-ticket-preserved c =
-    below_more _ _ c.loop-ticket.invariant (sym (found_lists c.loop-ticket.ticket (listed c.args.self.now.roll)) ∙ ap is_some (sym c.find.ensures) ∙ c.if-is-none.ensures)
+    below_more _ _ c.loop-ticket.invariant (sym (found_lists c.loop-ticket.ticket (listed c.args.self.now.roll)) ∙ ap is_some (sym c.find.ensures) ∙ c.if-is_none.ensures)
 
-pub returns-then-is-none : goal.returns-then-is-none
-returns-then-is-none c = record {
+pub returns-then-is_none : goal.returns-then-is_none
+returns-then-is_none c = record {
   small = omega arith;
-  fresh = sym (found_lists c.loop-ticket.ticket (listed c.args.self.now.roll)) ∙ ap is_some (sym c.find.ensures) ∙ c.if-is-none.ensures;
+  fresh = sym (found_lists c.loop-ticket.ticket (listed c.args.self.now.roll)) ∙ ap is_some (sym c.find.ensures) ∙ c.if-is_none.ensures;
   least = c.loop-ticket.invariant;
 }
 

@@ -7,9 +7,9 @@ use Rattle.voice_log.specs.Tallies.{tally_none, none_there}
 use Rattle.voice_log.specs.Written.{told_none}
 use Rattle.voice_log.proofs.log.VoiceLog.new.Goals as goal
 
-pub invariant-of-result : goal.invariant-of-result
+pub invariant_of-result : goal.invariant_of-result
 unfolding begun_count
-invariant-of-result c =
+invariant_of-result c =
     let z : c.new-2.result.count ≡ 0 = c.new-2.result.counted ∙ ap tally c.new-2.ensures ∙ tally_none 128 in
     (omega arith, (omega arith, (refl, (omega arith, tt))))
 

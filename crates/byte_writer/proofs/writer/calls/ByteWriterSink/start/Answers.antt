@@ -14,11 +14,11 @@ returns c =
     let v = c.args.velocity in
     let n = c.begin.result in
     let t = c.begin.new.self in
-    let struck = c.of-start-struck.result in
-    let good : startable ch k v ≡ true = sym c.is-startable.ensures ∙ c.if-not-is-startable.false in
+    let struck = c.of_start-struck.result in
+    let good : startable ch k v ≡ true = sym c.is_startable.ensures ∙ c.if-not-is_startable.false in
     let ok : writer_check s ≡ Ok tt = sym c.check.ensures ∙ c.in-ok-check.was in
-    let is-ch = c.of-start-struck.ensures.channel in
-    let is-k = c.of-start-struck.ensures.number in
+    let is-ch = c.of_start-struck.ensures.channel in
+    let is-k = c.of_start-struck.ensures.number in
     start_taken c.args.-place ch k v s _ t good ok record {
       number = n;
       small = c.begin.ensures.small;
