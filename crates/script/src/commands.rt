@@ -16,13 +16,13 @@ impl Command {
     pub(crate) fn named(word: &[u8]) -> Command
         ensures { (ws : List (List ℕ)) → asks result ws ≡ command word.now ws }
     {
-        if word == b"feed" {
+        if word == b"feed".as_slice() {
             Command::Feed
-        } else if word == b"set" {
+        } else if word == b"set".as_slice() {
             Command::Set
-        } else if word == b"tally" {
+        } else if word == b"tally".as_slice() {
             Command::Tally
-        } else if word == b"close" {
+        } else if word == b"close".as_slice() {
             Command::Close
         } else {
             Command::Unknown

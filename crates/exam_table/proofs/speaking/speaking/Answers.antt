@@ -3,14 +3,14 @@ use Rattle.std.proofs.lemmas.List.{take_all}
 use Rattle.exam_table.specs.Speaking.{speaks, keys_of}
 use Rattle.exam_table.proofs.More.{keys_took, keys_passed}
 use Rattle.exam_table.proofs.speaking.speaking.Goals as goal
-use Rattle.exam_table.proofs.speaking.speaking.Goals.{then-is_speaking+in-ok-push, else-is_speaking}
+use Rattle.exam_table.proofs.speaking.speaking.Goals.{then-is_speaking+in_ok-push, else-is_speaking}
 
 pub loop-line-preserved : goal.loop-line-preserved
 loop-line-preserved c =
     let ls = c.args.lines.now in
     let p = speaks c.args.end ls in
     elim c.if-is_speaking.branch [
-      | then-is_speaking+in-ok-push w ↦ ap vec_items w.keys-is ∙ keys_took p ls c.loop-line.line-index _ c.loop-line-test.true (vec_items c.loop-line.keys) (vec_items w.push.new.self) (sym w.if-is_speaking.ensures) c.loop-line.invariant w.in-ok-push.ensures.items
+      | then-is_speaking+in_ok-push w ↦ ap vec_items w.keys-is ∙ keys_took p ls c.loop-line.line-index _ c.loop-line-test.true (vec_items c.loop-line.keys) (vec_items w.push.new.self) (sym w.if-is_speaking.ensures) c.loop-line.invariant w.in_ok-push.ensures.items
       | else-is_speaking w ↦ ap vec_items w.keys-is ∙ keys_passed p ls c.loop-line.line-index _ c.loop-line-test.true (vec_items c.loop-line.keys) (sym w.if-is_speaking.ensures) c.loop-line.invariant
     ]
 

@@ -9,4 +9,4 @@ returns c =
     let ls = c.args.lines.now in
     five (row_text ls KeyDown) (row_text ls Transpose) (row_text ls PedalDown) (row_text ls KeyUp) (row_text ls PedalUp)
     (string_bytes c.new-text.result) (string_bytes c.write_row.new.text) (string_bytes c.write_row-2.new.text) (string_bytes c.write_row-3.new.text) (string_bytes c.write_row-4.new.text) (string_bytes c.write_row-5.new.text)
-    c.new-text.ensures.bytes c.in-ok-write_row.ensures c.in-ok-write_row-2.ensures c.in-ok-write_row-3.ensures c.in-ok-write_row-4.ensures c.in-ok-write_row-5.ensures
+    c.new-text.ensures.bytes c.in_ok-write_row.ensures c.in_ok-write_row-2.ensures c.in_ok-write_row-3.ensures c.in_ok-write_row-4.ensures c.in_ok-write_row-5.ensures

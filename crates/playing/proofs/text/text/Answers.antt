@@ -6,7 +6,7 @@ use Rattle.playing.proofs.text.text.Goals as goal
 
 pub loop-line-preserved : goal.loop-line-preserved
 loop-line-preserved c =
-    lines_more c.args.lines.now c.loop-line.line-index _ (string_bytes c.loop-line.text) (string_bytes c.writeln.new.self) c.loop-line-test.true c.loop-line.invariant c.in-ok-writeln.ensures.bytes
+    lines_more c.args.lines.now c.loop-line.line-index _ (string_bytes c.loop-line.text) (string_bytes c.writeln.new.self) c.loop-line-test.true c.loop-line.invariant c.in_ok-writeln.ensures.bytes
 
 pub returns : goal.returns
 returns c = c.loop-line.invariant ∙ ap lines_text (take_all _ _ c.loop-line-test.false)

@@ -11,7 +11,7 @@ returns-in_default-hex_byte c =
 pub loop-rest-preserved : goal.loop-rest-preserved
 loop-rest-preserved c =
     let some : 2 ≤ length c.loop-rest.rest.now = omega (arith, ltb-false) in
-    byte_more c.loop-rest.rest.now (vec_items c.loop-rest.bytes) (vec_items c.push.new.self) c.in-Some.byte _ some c.in-Some.ensures c.in-ok-push.ensures.items c.loop-rest.invariant
+    byte_more c.loop-rest.rest.now (vec_items c.loop-rest.bytes) (vec_items c.push.new.self) c.in-Some.byte _ some c.in-Some.ensures c.in_ok-push.ensures.items c.loop-rest.invariant
 
 pub returns : goal.returns
 returns c =

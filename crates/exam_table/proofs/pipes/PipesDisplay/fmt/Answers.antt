@@ -13,11 +13,11 @@ loop-key-preserved g c plain =
     let next : List ℕ = codes " " ++ decimal (get_or keys i 0) in
     has_written_of_eq g.W.Write.write_str_gives c.write_str-2.new.self (keys_text (take i keys) ++ next) (keys_text (take (i + 1) keys)) c.write.new.self
     (text_more keys i c.loop-key-test.true)
-    (has_written_append g.W.Write.write_str_gives c.write_str-2.new.self (keys_text (take i keys)) c.loop-key.f next c.write.new.self before (c.in-ok-write.ensures.shows before.plain refl))
+    (has_written_append g.W.Write.write_str_gives c.write_str-2.new.self (keys_text (take i keys)) c.loop-key.f next c.write.new.self before (c.in_ok-write.ensures.shows before.plain refl))
 
 pub returns-clause-writes : goal.returns-clause-writes
 returns-clause-writes g c plain ok =
-    let word = c.in-ok-write_str.ensures.writes plain refl in
+    let word = c.in_ok-write_str.ensures.writes plain refl in
     let keys = c.args.self.now.0.now in
     let written = keys_text (take c.loop-key.key-index keys) in
     has_written_of_eq g.W.Write.write_str_gives c.args.f.now (codes "pipe" ++ written) (pipes_text keys) c.loop-key.f

@@ -11,7 +11,7 @@ pub invariant_of-result : goal.invariant_of-result
 unfolding begun_count
 invariant_of-result c =
     let z : c.new-2.result.count ≡ 0 = c.new-2.result.counted ∙ ap tally c.new-2.ensures ∙ tally_none 128 in
-    (omega arith, (omega arith, (refl, (omega arith, tt))))
+    record { there = omega arith; most = omega arith; counted = refl; reserved = omega arith }
 
 pub returns : goal.returns
 unfolding lists Distinct

@@ -13,4 +13,4 @@ overflow_add-self-2 c =
 pub invariant_of-self : goal.invariant_of-self
 invariant_of-self c =
     let b = begun_next c.args.self.now.lines.items c.args.self.now.written c.args.line (omega arith) in
-    (omega arith, (omega arith, (omega arith, (omega arith, tt))))
+    record { there = omega arith; most = omega arith; counted = omega arith; reserved = omega arith }

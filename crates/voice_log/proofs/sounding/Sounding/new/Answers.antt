@@ -3,4 +3,4 @@ use Rattle.voice_log.specs.Tallies.{tally_none}
 use Rattle.voice_log.proofs.sounding.Sounding.new.Goals as goal
 
 pub invariant_of-result : goal.invariant_of-result
-invariant_of-result c = (refl, (sym (tally_none 128), tt))
+invariant_of-result c = record { long = refl; counted = sym (tally_none 128) }

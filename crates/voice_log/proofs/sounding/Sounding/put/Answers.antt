@@ -16,7 +16,7 @@ pub invariant_of-self : goal.invariant_of-self
 invariant_of-self c =
     let k = tally_some c.args.self.now.serials c.args.ticket in
     let q = tally_set c.args.self.now.serials c.args.ticket c.args.serial (omega arith) in
-    (simp length-set c.args.self.now.long, (omega arith, tt))
+    record { long = simp length-set c.args.self.now.long; counted = omega arith }
 
 pub returns-else-i-lt128 : goal.returns-else-i-lt128
 returns-else-i-lt128 c = sym (set_past c.args.self.now.serials c.args.ticket c.args.serial (omega arith))

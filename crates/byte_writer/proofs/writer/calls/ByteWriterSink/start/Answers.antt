@@ -16,7 +16,7 @@ returns c =
     let t = c.begin.new.self in
     let struck = c.of_start-struck.result in
     let good : startable ch k v ≡ true = sym c.is_startable.ensures ∙ c.if-not-is_startable.false in
-    let ok : writer_check s ≡ Ok tt = sym c.check.ensures ∙ c.in-ok-check.was in
+    let ok : writer_check s ≡ Ok tt = sym c.check.ensures ∙ c.in_ok-check.was in
     let is-ch = c.of_start-struck.ensures.channel in
     let is-k = c.of_start-struck.ensures.number in
     start_taken c.args.-place ch k v s _ t good ok record {
