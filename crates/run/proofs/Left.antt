@@ -4,6 +4,8 @@ use mathlib.Core.Path.{subst₃}
 use native.Mathlib.Decide.{ℕ_discrete}
 use Rattle.std.proofs.lemmas.Bool.Decides.{nat_tests}
 use Rattle.std.specs.List.{AllByRecursion}
+use Rattle.sink.specs.declared.fault.refusal.Refusal
+use Rattle.sink.specs.declared.sink.Sink
 use Rattle.sink.specs.Calls.{startable, Call, Start, Release, Hush, Tell, Set, Clear, Answer, ticket, done, denied}
 use Rattle.sink.specs.Meaning.{Meaning, Idle, Orderly, Means}
 use Rattle.sink.specs.Faults.{Denial}
@@ -60,7 +62,7 @@ pub record Law {S F : Type 0} (sees : F → Denial) (meaning : S → Meaning) (s
   pub stays : (s : S) (c : Call) (a : Answer F) (t : S) → sound s → does s c a t → sound t
   pub means : (s : S) (c : Call) (a : Answer F) (t : S) → sound s → does s c a t → Means sees meaning s c a t
 
-module _ {S F : Type 0} (sees : F → Denial) (meaning : S → Meaning) (sound : S → Type 0) (does : S → Call → Answer F → S → Type 0) (law : Law sees meaning sound does) where
+module _ {S F : Type 0} (gs : Sink.Ghosts S F) (gf : Refusal.Ghosts F) (sees : F → Denial) (meaning : S → Meaning) (sound : S → Type 0) (does : S → Call → Answer F → S → Type 0) (law : Law sees meaning sound does) where
   record Good (s : S) (T : List (Option ℕ)) (y : Counts F) (es : List (Event F)) : Type 0 where
     healthy : sound s
     owes : Owes (meaning s) T
@@ -71,17 +73,17 @@ module _ {S F : Type 0} (sees : F → Denial) (meaning : S → Meaning) (sound :
     returned : y.returned ≡ number returned_in es
     fair : AllByRecursion (Fair sees) es
 
-  abbrev GoodAt : Player S F → List (Event F) → Type 0
+  abbrev GoodAt : Player S F gs gf → List (Event F) → Type 0
   GoodAt b es = Good b.stack b.table b.counts es
 
   carried : {s : S} {T T' : List (Option ℕ)} {y y' : Counts F} {es es' : List (Event F)} → T' ≡ T → y' ≡ y → es' ≡ es → Good s T y es → Good s T' y' es'
   carried {s} p q r good = subst₃ (λ T y es. Good s T y es) (sym p) (sym q) (sym r) good
 
   -- from a good player, with more events, to a good player, n Note-ons later
-  abbrev Grows : Player S F → List (Event F) → Player S F → ℕ → Type 0
+  abbrev Grows : Player S F gs gf → List (Event F) → Player S F gs gf → ℕ → Type 0
   Grows b fs b' n = (es : List (Event F)) → GoodAt b es → GoodAt b' (es ++ fs) × (b'.counts.note_ons ≡ b.counts.note_ons + n)
 
-  then_grows : (b b₁ b' : Player S F) (es fs : List (Event F)) (n k : ℕ) → Grows b es b₁ n → Grows b₁ fs b' k → Grows b (es ++ fs) b' (n + k)
+  then_grows : (b b₁ b' : Player S F gs gf) (es fs : List (Event F)) (n k : ℕ) → Grows b es b₁ n → Grows b₁ fs b' k → Grows b (es ++ fs) b' (n + k)
   then_grows b b₁ b' es fs n k p q ds good =
       let one = p ds good in
       let two = q (ds ++ es) one.0 in
@@ -107,7 +109,7 @@ module _ {S F : Type 0} (sees : F → Denial) (meaning : S → Meaning) (sound :
   cleared_kept p done s t ok d u = (law.means s (Clear p) done t ok d).kept u
   cleared_kept p (denied f) s t ok d u = absurd (law.means s (Clear p) (denied f) t ok d)
 
-  told_grows : {b b' : Player S F} {fs : List (Event F)} (c : Call) → Calm c → Called meaning does c b fs b' → Grows b fs b' 0
+  told_grows : {b b' : Player S F gs gf} {fs : List (Event F)} (c : Call) → Calm c → Called meaning does c b fs b' → Grows b fs b' 0
   told_grows {b} {b'} c calm told es good = (
     carried told.table told.counts (ap (λ l. es ++ l) told.events ∙ append-nil es)
         (record {
@@ -130,7 +132,7 @@ module _ {S F : Type 0} (sees : F → Denial) (meaning : S → Meaning) (sound :
     denied : (y : Counts F) → (f y).denied ≡ y.denied
     returned : (y : Counts F) → (f y).returned ≡ y.returned
 
-  noted_grows : {b b' : Player S F} {fs : List (Event F)} (f : Counts F → Counts F) → Plain f → Counted meaning does f b fs b' → Grows b fs b' 0
+  noted_grows : {b b' : Player S F gs gf} {fs : List (Event F)} (f : Counts F → Counts F) → Plain f → Counted meaning does f b fs b' → Grows b fs b' 0
   noted_grows {b} {b'} f plain noted es good =
       let y = b.counts in (
         carried noted.table noted.counts (ap (λ l. es ++ l) noted.events ∙ append-nil es)
@@ -158,7 +160,7 @@ module _ {S F : Type 0} (sees : F → Denial) (meaning : S → Meaning) (sound :
 
   -- ---- a ticket given back
 
-  gave_by : (b b' : Player S F) (p i t v : ℕ) (es : List (Event F)) (a : Answer F) → v < 128 → GoodAt b es → at b.table i ≡ Some t → does b.stack (Release p t v) a b'.stack → Good b'.stack (set b.table i None) (returned_by a b.counts) (es ++ (release t a ∷ [])) × ((returned_by a b.counts).note_ons ≡ b.counts.note_ons + 0)
+  gave_by : (b b' : Player S F gs gf) (p i t v : ℕ) (es : List (Event F)) (a : Answer F) → v < 128 → GoodAt b es → at b.table i ≡ Some t → does b.stack (Release p t v) a b'.stack → Good b'.stack (set b.table i None) (returned_by a b.counts) (es ++ (release t a ∷ [])) × ((returned_by a b.counts).note_ons ≡ b.counts.note_ons + 0)
   gave_by b b' p i t v es (ticket x) h good held d = absurd (law.means b.stack (Release p t v) (ticket x) b'.stack good.healthy d)
   gave_by b b' p i t v es (denied f) h good held d =
       absurd (true_false (good.owes.owed i t held) ((law.means b.stack (Release p t v) (denied f) b'.stack good.healthy d).because.1 (low_velocity v h)).0)
@@ -177,22 +179,22 @@ module _ {S F : Type 0} (sees : F → Denial) (meaning : S → Meaning) (sound :
         omega arith,
       )
 
-  gave_grows : {b b' : Player S F} {fs : List (Event F)} (p i t v : ℕ) → v < 128 → Returned meaning does p i t v b fs b' → Grows b fs b' 0
+  gave_grows : {b b' : Player S F gs gf} {fs : List (Event F)} (p i t v : ℕ) → v < 128 → Returned meaning does p i t v b fs b' → Grows b fs b' 0
   gave_grows {b} {b'} p i t v h back es good =
       let one = gave_by b b' p i t v es back.answer h good back.held back.call in
       (carried back.table back.counts (ap (λ l. es ++ l) back.events) one.0, ap (λ y. y.note_ons) back.counts ∙ one.1)
 
-  lifted_grows : {b b' : Player S F} {fs : List (Event F)} (p i : ℕ) → Emptied meaning does p i b fs b' → Grows b fs b' 0
+  lifted_grows : {b b' : Player S F gs gf} {fs : List (Event F)} (p i : ℕ) → Emptied meaning does p i b fs b' → Grows b fs b' 0
   lifted_grows p i (inl x) = noted_grows unchanged plain_same x.1
   lifted_grows p i (inr x) = gave_grows p i x.0 64 (omega arith) x.1
 
   -- ---- which places are empty after it
 
-  lifted_empties : {b b' : Player S F} {fs : List (Event F)} (p i : ℕ) → Emptied meaning does p i b fs b' → at b'.table i ≡ None
+  lifted_empties : {b b' : Player S F gs gf} {fs : List (Event F)} (p i : ℕ) → Emptied meaning does p i b fs b' → at b'.table i ≡ None
   lifted_empties p i (inl x) = ap (λ T. at T i) x.1.table ∙ x.0
   lifted_empties {b} p i (inr x) = ap (λ T. at T i) x.1.table ∙ get_or-set_same b.table i None None (in_table b.table i x.0 x.1.held)
 
-  lifted_leaves : {b b' : Player S F} {fs : List (Event F)} (p i j : ℕ) → Emptied meaning does p i b fs b' → at b.table j ≡ None → at b'.table j ≡ None
+  lifted_leaves : {b b' : Player S F gs gf} {fs : List (Event F)} (p i j : ℕ) → Emptied meaning does p i b fs b' → at b.table j ≡ None → at b'.table j ≡ None
   lifted_leaves p i j (inl x) free = ap (λ T. at T j) x.1.table ∙ free
   lifted_leaves {b} p i j (inr x) free = ap (λ T. at T j) x.1.table ∙ go (written b.table i j None (in_table b.table i x.0 x.1.held))
     where
@@ -200,11 +202,11 @@ module _ {S F : Type 0} (sees : F → Denial) (meaning : S → Meaning) (sound :
       go (inl q) = q.1
       go (inr q) = q.1 ∙ free
 
-  swept_grows : (p from to : ℕ) {b b' : Player S F} {fs : List (Event F)} → Swept meaning does p from to b fs b' → Grows b fs b' 0
+  swept_grows : (p from to : ℕ) {b b' : Player S F gs gf} {fs : List (Event F)} → Swept meaning does p from to b fs b' → Grows b fs b' 0
   swept_grows p from _ swept_none es good = (carried refl refl (append-nil es) good, omega arith)
   swept_grows p from _ (swept_more {i} {b} {b₁} {b'} {es} {es₁} before lifted) ds good = then_grows b b₁ b' es es₁ 0 0 (swept_grows p from i before) (lifted_grows p i lifted) ds good
 
-  swept_empties : (p from to : ℕ) {b b' : Player S F} {fs : List (Event F)} → Swept meaning does p from to b fs b' → (j : ℕ) → from ≤ j → j < to → at b'.table j ≡ None
+  swept_empties : (p from to : ℕ) {b b' : Player S F gs gf} {fs : List (Event F)} → Swept meaning does p from to b fs b' → (j : ℕ) → from ≤ j → j < to → at b'.table j ≡ None
   swept_empties p from _ swept_none j low high = absurd (omega arith)
   swept_empties p from _ (swept_more {i} {b} {b₁} {b'} before lifted) j low high = go (swept_empties p from i before j low) (ℕ_discrete j i)
     where
@@ -212,7 +214,7 @@ module _ {S F : Type 0} (sees : F → Denial) (meaning : S → Meaning) (sound :
       go ih (yes e) = ap (at b'.table) e ∙ lifted_empties p i lifted
       go ih (no ne) = lifted_leaves p i j lifted (ih (omega arith))
 
-  dropped_grows : {b b' : Player S F} {fs : List (Event F)} (p from to : ℕ) (c : Call) → Calm c → SweptThen meaning does p from to c b fs b' → Grows b fs b' 0
+  dropped_grows : {b b' : Player S F gs gf} {fs : List (Event F)} (p from to : ℕ) (c : Call) → Calm c → SweptThen meaning does p from to c b fs b' → Grows b fs b' 0
   dropped_grows p from to c calm dropped es good =
       let one = swept_grows p from to dropped.swept es good in
       let two = told_grows c calm dropped.called (es ++ _) one.0 in
@@ -220,7 +222,7 @@ module _ {S F : Type 0} (sees : F → Denial) (meaning : S → Meaning) (sound :
 
   -- ---- a note started
 
-  struck_by : (b b' : Player S F) (p c k v : ℕ) (es : List (Event F)) (a : Answer F) → startable c k v ≡ true → spot c k < length b.table → at b.table (spot c k) ≡ None → GoodAt b es → does b.stack (Start p c k v) a b'.stack → Good b'.stack (entered (spot c k) a b.table) (started_by p c k a b.counts) (es ++ (start (meaning b.stack).ready a ∷ [])) × ((started_by p c k a b.counts).note_ons ≡ b.counts.note_ons + 1)
+  struck_by : (b b' : Player S F gs gf) (p c k v : ℕ) (es : List (Event F)) (a : Answer F) → startable c k v ≡ true → spot c k < length b.table → at b.table (spot c k) ≡ None → GoodAt b es → does b.stack (Start p c k v) a b'.stack → Good b'.stack (entered (spot c k) a b.table) (started_by p c k a b.counts) (es ++ (start (meaning b.stack).ready a ∷ [])) × ((started_by p c k a b.counts).note_ons ≡ b.counts.note_ons + 1)
   struck_by b b' p c k v es done ranged fits free good d = absurd (law.means b.stack (Start p c k v) done b'.stack good.healthy d)
   struck_by b b' p c k v es (ticket t) ranged fits free good d =
       let began = (law.means b.stack (Start p c k v) (ticket t) b'.stack good.healthy d).1 in
@@ -253,26 +255,26 @@ module _ {S F : Type 0} (sees : F → Denial) (meaning : S → Meaning) (sound :
         omega arith,
       )
 
-  struck_grows : {b b' : Player S F} {fs : List (Event F)} (p c k v : ℕ) → (c < 16) × (k < 128) × (0 < v) × (v < 128) → at b.table (spot c k) ≡ None → Started meaning does p c k v b fs b' → Grows b fs b' 1
+  struck_grows : {b b' : Player S F gs gf} {fs : List (Event F)} (p c k v : ℕ) → (c < 16) × (k < 128) × (0 < v) × (v < 128) → at b.table (spot c k) ≡ None → Started meaning does p c k v b fs b' → Grows b fs b' 1
   struck_grows {b} {b'} p c k v h free struck es good =
       let one = struck_by b b' p c k v es struck.answer (ranged_in c k v h.0 h.1 h.2 h.3) (omega (arith, b.long, h.0, h.1)) free good struck.call in
       (carried struck.table struck.counts (ap (λ l. es ++ l) struck.events) one.0, ap (λ y. y.note_ons) struck.counts ∙ one.1)
 
-  on_grows : {b b' : Player S F} {fs : List (Event F)} (p c k v : ℕ) → (c < 16) × (k < 128) × (0 < v) × (v < 128) → OnNoteOn meaning does p c k v b fs b' → Grows b fs b' 1
+  on_grows : {b b' : Player S F gs gf} {fs : List (Event F)} (p c k v : ℕ) → (c < 16) × (k < 128) × (0 < v) × (v < 128) → OnNoteOn meaning does p c k v b fs b' → Grows b fs b' 1
   on_grows {b} {b'} p c k v h step es good =
       let both = then_grows b step.between b' step.before step.after 0 1 (lifted_grows p (spot c k) step.emptied) (struck_grows p c k v h (lifted_empties p (spot c k) step.emptied) step.started) es good in
       (carried refl refl (ap (λ l. es ++ l) step.events) both.0, both.1)
 
-  off_grows : {b b' : Player S F} {fs : List (Event F)} (p c k v : ℕ) → v < 128 → OnNoteOff meaning does p c k v b fs b' → Grows b fs b' 0
+  off_grows : {b b' : Player S F gs gf} {fs : List (Event F)} (p c k v : ℕ) → v < 128 → OnNoteOff meaning does p c k v b fs b' → Grows b fs b' 0
   off_grows p c k v h (inl x) = noted_grows strayed plain_stray x.1
   off_grows p c k v h (inr x) = gave_grows p (spot c k) x.0 v h x.1
 
-  worked_grows : (b b' : Player S F) (fs : List (Event F)) (w : ControlUse) (p c n v : ℕ) → OnControl meaning does w p c n v b fs b' → Grows b fs b' 0
+  worked_grows : (b b' : Player S F gs gf) (fs : List (Event F)) (w : ControlUse) (p c n v : ℕ) → OnControl meaning does w p c n v b fs b' → Grows b fs b' 0
   worked_grows b b' fs use-is.Tell p c n v step = told_grows (Tell p c n v) tt step
   worked_grows b b' fs use-is.ReleaseAndTell p c n v step = dropped_grows p (128 * c) (128 * c + 128) (Tell p c n v) tt step
   worked_grows b b' fs use-is.PassOver p c n v step = noted_grows passed_over plain_passed step
 
-  acted_grows : (b b' : Player S F) (fs : List (Event F)) (p : ℕ) (x : Message) → Ranged x → OnMessage meaning does p x b fs b' → Grows b fs b' (on_count (message p x))
+  acted_grows : (b b' : Player S F gs gf) (fs : List (Event F)) (p : ℕ) (x : Message) → Ranged x → OnMessage meaning does p x b fs b' → Grows b fs b' (on_count (message p x))
   acted_grows b b' fs p m.Reset h step = dropped_grows p 0 2048 (Clear p) tt step
   acted_grows b b' fs p m.Undefined h step = noted_grows unchanged plain_same step
   acted_grows b b' fs p (m.RealTime x) h step = noted_grows unchanged plain_same step
@@ -292,11 +294,11 @@ module _ {S F : Type 0} (sees : F → Denial) (meaning : S → Meaning) (sound :
   acted_grows b b' fs p (m.SongSelect v) h step = noted_grows unchanged plain_same step
   acted_grows b b' fs p (m.SongPosition v) h step = noted_grows unchanged plain_same step
 
-  heeded_grows : (b b' : Player S F) (fs : List (Event F)) (h : Reading) → InRanges h → OnReading meaning does h b fs b' → Grows b fs b' (on_count h)
+  heeded_grows : (b b' : Player S F gs gf) (fs : List (Event F)) (h : Reading) → InRanges h → OnReading meaning does h b fs b' → Grows b fs b' (on_count h)
   heeded_grows b b' fs (part p xs) ranged step = noted_grows unchanged plain_same step
   heeded_grows b b' fs (message p x) ranged step = acted_grows b b' fs p x ranged step
 
-  played_grows : {hs : List Reading} {b b' : Player S F} {fs : List (Event F)} → Played meaning does hs b fs b' → Grows b fs b' (on_counts hs)
+  played_grows : {hs : List Reading} {b b' : Player S F gs gf} {fs : List (Event F)} → Played meaning does hs b fs b' → Grows b fs b' (on_counts hs)
   played_grows played_none es good = (carried refl refl (append-nil es) good, omega arith)
   played_grows (played_more h {rs = hs} {b} {b₁} {b'} {es} es₁ before ranged step) ds good =
       let both = then_grows b b₁ b' es es₁ (on_counts hs) (on_count h) (played_grows before) (heeded_grows b₁ b' es₁ h ranged step) ds good in
@@ -304,7 +306,7 @@ module _ {S F : Type 0} (sees : F → Denial) (meaning : S → Meaning) (sound :
 
   -- ---- every past
 
-  record Kept (r : Run S F) (bytes : List ℕ) (es : List (Event F)) : Type 0 where
+  record Kept (r : Run S F gs gf) (bytes : List ℕ) (es : List (Event F)) : Type 0 where
     good : GoodAt r.player es
     state : r.reader.state ≡ reaches s.Idle bytes
     count : r.count ≡ length bytes
@@ -323,7 +325,7 @@ module _ {S F : Type 0} (sees : F → Denial) (meaning : S → Meaning) (sound :
   }
 
   module _ (ends : S → List End) where
-    past_kept : {r : Run S F} {bytes : List ℕ} {es : List (Event F)} → Past sees meaning sound does ends r bytes es → Kept r bytes es
+    past_kept : {r : Run S F gs gf} {bytes : List ℕ} {es : List (Event F)} → Past sees meaning sound does ends r bytes es → Kept r bytes es
     past_kept (opened {r} stack ok idle new) = record {
       good = subst (λ x. Good x r.player.table r.player.counts []) (sym new.stack) (carried new.table new.counts refl (good_fresh stack 2048 ok idle));
       state = new.state;
@@ -357,14 +359,14 @@ module _ {S F : Type 0} (sees : F → Denial) (meaning : S → Meaning) (sound :
     past_kept (tallied before) = past_kept before
 
     module _ (cleanly : (s : S) → sound s → Each clean (ends s)) (completes : (s : S) → sound s → ((u : ℕ) → (meaning s).sounding u ≡ false) → Each complete (ends s)) where
-      stands_by : (b : Player S F) (bytes : List ℕ) (es : List (Event F)) → GoodAt b es → b.counts.note_ons ≡ on_counts (reads s.Idle 0 bytes) → Stands sees meaning sound does ends b bytes es
+      stands_by : (b : Player S F gs gf) (bytes : List ℕ) (es : List (Event F)) → GoodAt b es → b.counts.note_ons ≡ on_counts (reads s.Idle 0 bytes) → Stands sees meaning sound does ends b bytes es
       stands_by b bytes es good ons = record {
         owes = good.owes;
         agree = record { note_ons = ons; starts = good.starts; tickets = good.tickets; taken = good.taken; denied = good.denied; returned = good.returned; fair = good.fair };
         clean = cleanly b.stack good.healthy;
       }
 
-      rests_by : (b : Player S F) (es : List (Event F)) (tally : Tally F) (stack : S) → GoodAt b es → ((j t : ℕ) → at b.table j ≡ Some t → ⊥) → ((u : ℕ) → (meaning b.stack).kept u ≡ false) → (n : ℕ) → tally ≡ tally_of n b.counts → stack ≡ b.stack → Rests sees meaning sound does ends stack tally
+      rests_by : (b : Player S F gs gf) (es : List (Event F)) (tally : Tally F) (stack : S) → GoodAt b es → ((j t : ℕ) → at b.table j ≡ Some t → ⊥) → ((u : ℕ) → (meaning b.stack).kept u ≡ false) → (n : ℕ) → tally ≡ tally_of n b.counts → stack ≡ b.stack → Rests sees meaning sound does ends stack tally
       rests_by b es tally stack good empty kept n answered at_last =
           subst (λ p. Rests sees meaning sound does ends p tally) (sym at_last) (record {
             sound_left = good.healthy;
@@ -382,7 +384,7 @@ module _ {S F : Type 0} (sees : F → Denial) (meaning : S → Meaning) (sound :
           even : b.counts.taken ≡ b.counts.returned
           even = omega (arith, good.tickets, no_tickets b.table empty)
 
-      closes : (r : Run S F) (bytes : List ℕ) (es es' : List (Event F)) (b : Player S F) (tally : Tally F) (stack : S) → Kept r bytes es → Closed sees meaning sound does ends r es' b tally stack → Closes sees meaning sound does ends bytes (es ++ es') b tally stack
+      closes : (r : Run S F gs gf) (bytes : List ℕ) (es es' : List (Event F)) (b : Player S F gs gf) (tally : Tally F) (stack : S) → Kept r bytes es → Closed sees meaning sound does ends r es' b tally stack → Closes sees meaning sound does ends bytes (es ++ es') b tally stack
       closes r bytes es es' b tally stack k closed =
           let dropped = closed.swept in
           let one = dropped_grows r.count 0 2048 (Clear r.count) tt dropped es k.good in
@@ -397,7 +399,7 @@ module _ {S F : Type 0} (sees : F → Denial) (meaning : S → Meaning) (sound :
           kept : (u : ℕ) → (meaning b.stack).kept u ≡ false
           kept = cleared_kept r.count closed.swept.called.answer closed.swept.between.stack b.stack (swept_grows r.count 0 2048 closed.swept.swept es k.good).0.healthy closed.swept.called.call
 
-      pub no_note_left : NoNoteLeft sees meaning sound does ends
+      pub no_note_left : NoNoteLeft gs gf sees meaning sound does ends
       no_note_left r bytes es past =
           let k = past_kept past in
           (stands_by r.player bytes es k.good k.ons, λ es' b tally stack closed. closes r bytes es es' b tally stack k closed)

@@ -1,6 +1,8 @@
 -- Every past of a run, and what is true after it.
 use Rattle.std.specs.Prelude.{◌≡◌, ℕ, ◌+◌, ◌<◌, ◌≤◌, true, false, List, [], ◌∷◌, ◌++◌, length, replicate, ℤ, Some, None, Ok, Err, Option, Result}
 use Rattle.std.specs.List.{AllByRecursion}
+use Rattle.sink.specs.declared.fault.refusal.Refusal
+use Rattle.sink.specs.declared.sink.Sink
 use Rattle.sink.specs.Calls.{Call, Set, Clear, Answer, ticket, done, denied}
 use Rattle.sink.specs.Meaning.{Meaning, Readiness, is_ready, refuses, Idle}
 use Rattle.sink.specs.Faults.{Denial}
@@ -75,59 +77,6 @@ pub record Agree {F : Type 0} (sees : F → Denial) (y : Counts F) (T : List (Op
   pub fair : AllByRecursion (Fair sees) es
 
 module _ {S F : Type 0} (sees : F → Denial) (meaning : S → Meaning) (sound : S → Type 0) (does : S → Call → Answer F → S → Type 0) (ends : S → List End) where
-  -- ---- the calls of a run
-
-  pub record Opened (over : S) (r : Run S F) : Type 0 where
-    pub stack : r.player.stack ≡ over
-    pub table : r.player.table ≡ replicate 2048 None
-    pub counts : r.player.counts ≡ fresh
-    pub state : r.reader.state ≡ s.Idle
-    pub count : r.count ≡ 0
-
-  pub record Fed (bytes : List ℕ) (r : Run S F) (es : List (Event F)) (r' : Run S F) : Type 0 where
-    pub fits : r.count + length bytes ≤ 4000000000
-    pub played : Played meaning does (reads r.reader.state r.count bytes) r.player es r'.player
-    pub state : r'.reader.state ≡ reaches r.reader.state bytes
-    pub count : r'.count ≡ r.count + length bytes
-
-  -- a feed is denied exactly if the bytes would pass 4,000,000,000, and changes nothing then
-  abbrev pub Feeds : List ℕ → Run S F → Result (Unit {0}) TooManyBytes → Run S F → Type 0
-  Feeds bytes r (Ok _) r' = (es : List (Event F)) × Fed bytes r es r'
-  Feeds bytes r (Err e) r' = (4000000000 < r.count + length bytes) × (r' ≡ r)
-
-  -- the stack is set at the place reached
-  pub record Sets (depth item : ℕ) (value : ℤ) (r : Run S F) (a : Answer F) (r' : Run S F) : Type 0 where
-    pub call : does r.player.stack (Set r.count depth item value) a r'.player.stack
-    pub table : r'.player.table ≡ r.player.table
-    pub counts : r'.player.counts ≡ r.player.counts
-    pub state : r'.reader.state ≡ r.reader.state
-    pub count : r'.count ≡ r.count
-
-  -- all tickets are released at the place reached, and then the stack is cleared
-  pub record Closed (r : Run S F) (es : List (Event F)) (b : Player S F) (tally : Tally F) (left : S) : Type 0 where
-    pub swept : SweptThen meaning does r.count 0 2048 (Clear r.count) r.player es b
-    pub answered : tally ≡ tally_of r.count b.counts
-    pub stack : left ≡ b.stack
-
-  abbrev pub ClosesBy : Run S F → Tally F → S → Type 0
-  ClosesBy r tally left = (es : List (Event F)) × (b : Player S F) × Closed r es b tally left
-
-  -- ---- every past: a run opened over an idle stack, and then whatever calls were made of it, taken or denied,
-  -- with the bytes of the feeds taken, and the starts and releases so far
-
-  pub data Past : Run S F → List ℕ → List (Event F) → Type 0 where
-    opened : {r : Run S F} (stack : S) → sound stack → Idle (meaning stack) → Opened stack r → Past r [] []
-    fed : {r r' : Run S F} {bytes : List ℕ} {es es' : List (Event F)} (piece : List ℕ) → Past r bytes es → Fed piece r es' r' → Past r' (bytes ++ piece) (es ++ es')
-    fed_denied : {r r' : Run S F} {bytes : List ℕ} {es : List (Event F)} (e : TooManyBytes) (piece : List ℕ) → Past r bytes es → Feeds piece r (Err e) r' → Past r' bytes es
-    set : {r r' : Run S F} {bytes : List ℕ} {es : List (Event F)} {a : Answer F} (depth item : ℕ) (value : ℤ) → Past r bytes es → Sets depth item value r a r' → Past r' bytes es
-    tallied : {r : Run S F} {bytes : List ℕ} {es : List (Event F)} → Past r bytes es → Past r bytes es
-
-  -- after every past
-  pub record Stands (b : Player S F) (bytes : List ℕ) (es : List (Event F)) : Type 0 where
-    pub owes : Owes (meaning b.stack) b.table
-    pub agree : Agree sees b.counts b.table bytes es
-    pub clean : Each clean (ends b.stack)
-
   -- after a close besides: no ticket is left in any of the three sets, and every note begun is stopped
   pub record Rests (stack : S) (tally : Tally F) : Type 0 where
     pub sound_left : sound stack
@@ -135,20 +84,75 @@ module _ {S F : Type 0} (sees : F → Denial) (meaning : S → Meaning) (sound :
     pub even : tally.taken ≡ tally.returned
     pub complete : Each complete (ends stack)
 
-  pub record Closes (bytes : List ℕ) (es : List (Event F)) (b : Player S F) (tally : Tally F) (stack : S) : Type 0 where
+module _ {S F : Type 0} {gs : Sink.Ghosts S F} {gf : Refusal.Ghosts F} (sees : F → Denial) (meaning : S → Meaning) (sound : S → Type 0) (does : S → Call → Answer F → S → Type 0) (ends : S → List End) where
+  -- ---- the calls of a run
+
+  pub record Opened (over : S) (r : Run S F gs gf) : Type 0 where
+    pub stack : r.player.stack ≡ over
+    pub table : r.player.table ≡ replicate 2048 None
+    pub counts : r.player.counts ≡ fresh
+    pub state : r.reader.state ≡ s.Idle
+    pub count : r.count ≡ 0
+
+  pub record Fed (bytes : List ℕ) (r : Run S F gs gf) (es : List (Event F)) (r' : Run S F gs gf) : Type 0 where
+    pub fits : r.count + length bytes ≤ 4000000000
+    pub played : Played meaning does (reads r.reader.state r.count bytes) r.player es r'.player
+    pub state : r'.reader.state ≡ reaches r.reader.state bytes
+    pub count : r'.count ≡ r.count + length bytes
+
+  -- a feed is denied exactly if the bytes would pass 4,000,000,000, and changes nothing then
+  abbrev pub Feeds : List ℕ → Run S F gs gf → Result (Unit {0}) TooManyBytes → Run S F gs gf → Type 0
+  Feeds bytes r (Ok _) r' = (es : List (Event F)) × Fed bytes r es r'
+  Feeds bytes r (Err e) r' = (4000000000 < r.count + length bytes) × (r' ≡ r)
+
+  -- the stack is set at the place reached
+  pub record Sets (depth item : ℕ) (value : ℤ) (r : Run S F gs gf) (a : Answer F) (r' : Run S F gs gf) : Type 0 where
+    pub call : does r.player.stack (Set r.count depth item value) a r'.player.stack
+    pub table : r'.player.table ≡ r.player.table
+    pub counts : r'.player.counts ≡ r.player.counts
+    pub state : r'.reader.state ≡ r.reader.state
+    pub count : r'.count ≡ r.count
+
+  -- all tickets are released at the place reached, and then the stack is cleared
+  pub record Closed (r : Run S F gs gf) (es : List (Event F)) (b : Player S F gs gf) (tally : Tally F) (left : S) : Type 0 where
+    pub swept : SweptThen meaning does r.count 0 2048 (Clear r.count) r.player es b
+    pub answered : tally ≡ tally_of r.count b.counts
+    pub stack : left ≡ b.stack
+
+  abbrev pub ClosesBy : Run S F gs gf → Tally F → S → Type 0
+  ClosesBy r tally left = (es : List (Event F)) × (b : Player S F gs gf) × Closed r es b tally left
+
+  -- ---- every past: a run opened over an idle stack, and then whatever calls were made of it, taken or denied,
+  -- with the bytes of the feeds taken, and the starts and releases so far
+
+  pub data Past : Run S F gs gf → List ℕ → List (Event F) → Type 0 where
+    opened : {r : Run S F gs gf} (stack : S) → sound stack → Idle (meaning stack) → Opened stack r → Past r [] []
+    fed : {r r' : Run S F gs gf} {bytes : List ℕ} {es es' : List (Event F)} (piece : List ℕ) → Past r bytes es → Fed piece r es' r' → Past r' (bytes ++ piece) (es ++ es')
+    fed_denied : {r r' : Run S F gs gf} {bytes : List ℕ} {es : List (Event F)} (e : TooManyBytes) (piece : List ℕ) → Past r bytes es → Feeds piece r (Err e) r' → Past r' bytes es
+    set : {r r' : Run S F gs gf} {bytes : List ℕ} {es : List (Event F)} {a : Answer F} (depth item : ℕ) (value : ℤ) → Past r bytes es → Sets depth item value r a r' → Past r' bytes es
+    tallied : {r : Run S F gs gf} {bytes : List ℕ} {es : List (Event F)} → Past r bytes es → Past r bytes es
+
+  -- after every past
+  pub record Stands (b : Player S F gs gf) (bytes : List ℕ) (es : List (Event F)) : Type 0 where
+    pub owes : Owes (meaning b.stack) b.table
+    pub agree : Agree sees b.counts b.table bytes es
+    pub clean : Each clean (ends b.stack)
+
+  pub record Closes (bytes : List ℕ) (es : List (Event F)) (b : Player S F gs gf) (tally : Tally F) (stack : S) : Type 0 where
     pub stands : Stands b bytes es
-    pub rests : Rests stack tally
+    pub rests : Rests sees meaning sound does ends stack tally
 
-  -- no note is left: after every past the first, after a past and a close both
-  abbrev pub NoNoteLeft : Type 0
-  NoNoteLeft =
-      (r : Run S F) (bytes : List ℕ) (es : List (Event F)) → Past r bytes es →
-      Stands r.player bytes es ×
-      ((es' : List (Event F)) (b : Player S F) (tally : Tally F) (stack : S) → Closed r es' b tally stack → Closes bytes (es ++ es') b tally stack)
-
-  -- the same of one run
-  abbrev pub PastStands : Run S F → Type 0
+  -- of one run: after every past the first, after a past and a close both
+  abbrev pub PastStands : Run S F gs gf → Type 0
   PastStands r = (bytes : List ℕ) (es : List (Event F)) → Past r bytes es → Stands r.player bytes es
 
-  abbrev pub PastCloses : Run S F → Tally F → S → Type 0
-  PastCloses r tally stack = (bytes : List ℕ) (es : List (Event F)) → Past r bytes es → (es' : List (Event F)) × (b : Player S F) × Closed r es' b tally stack × Closes bytes (es ++ es') b tally stack
+  abbrev pub PastCloses : Run S F gs gf → Tally F → S → Type 0
+  PastCloses r tally stack = (bytes : List ℕ) (es : List (Event F)) → Past r bytes es → (es' : List (Event F)) × (b : Player S F gs gf) × Closed r es' b tally stack × Closes bytes (es ++ es') b tally stack
+
+-- no note is left: after every past of any run the first, after a past and a close both
+module _ {S F : Type 0} (gs : Sink.Ghosts S F) (gf : Refusal.Ghosts F) (sees : F → Denial) (meaning : S → Meaning) (sound : S → Type 0) (does : S → Call → Answer F → S → Type 0) (ends : S → List End) where
+  abbrev pub NoNoteLeft : Type 0
+  NoNoteLeft =
+      (r : Run S F gs gf) (bytes : List ℕ) (es : List (Event F)) → Past sees meaning sound does ends r bytes es →
+      Stands sees meaning sound does ends r.player bytes es ×
+      ((es' : List (Event F)) (b : Player S F gs gf) (tally : Tally F) (stack : S) → Closed sees meaning sound does ends r es' b tally stack → Closes sees meaning sound does ends bytes (es ++ es') b tally stack)

@@ -15,7 +15,7 @@ const MOST: u64 = 4_000_000_000;
 impl<S: Sink> Run<S> {
     // Opens a run over a stack. The slip is spent by closing.
     pub fn open(stack: S) -> (Run<S>, RunSlip)
-        ensures { Opened Fault-as-Refusal.denial S.Sink.meaning S.Sink.sound S.Sink.does S.Sink.ends stack result.0 }
+        ensures { Opened S.Fault.Refusal.denial S.Sink.meaning S.Sink.sound S.Sink.does S.Sink.ends stack result.0 }
     {
         let player = Player {
             stack,
@@ -34,7 +34,7 @@ impl<S: Sink> Run<S> {
 
     // Reads the bytes and acts on what they give.
     pub fn feed(&mut self, bytes: &[u8]) -> Result<(), TooManyBytes>
-        ensures { Feeds Fault-as-Refusal.denial S.Sink.meaning S.Sink.sound S.Sink.does S.Sink.ends bytes.now self.old result self.new }
+        ensures { Feeds S.Fault.Refusal.denial S.Sink.meaning S.Sink.sound S.Sink.does S.Sink.ends bytes.now self.old result self.new }
     {
         if bytes.len() as u64 > MOST - self.count {
             return Err(TooManyBytes);
@@ -75,7 +75,7 @@ impl<S: Sink> Run<S> {
     pub fn close(self, slip: RunSlip) -> (Tally<S::Fault>, S)
         ensures closed { ClosesBy S.Fault.Refusal.denial S.Sink.meaning S.Sink.sound S.Sink.does S.Sink.ends self result.0 result.1 }
         ensures rests { PastCloses S.Fault.Refusal.denial S.Sink.meaning S.Sink.sound S.Sink.does S.Sink.ends self result.0 result.1 }
-        ensures theorem { NoNoteLeft S.Fault.Refusal.denial S.Sink.meaning S.Sink.sound S.Sink.does S.Sink.ends }
+        ensures theorem { NoNoteLeft S.Sink S.Fault.Refusal S.Fault.Refusal.denial S.Sink.meaning S.Sink.sound S.Sink.does S.Sink.ends }
     {
         let RunSlip { issued: _ } = slip;
         let Run {
