@@ -1,15 +1,7 @@
 -- How the words of a line make an act.
-use Rattle.std.proofs.Common.{◌≡◌, ℕ, Bool, true, false, List, [], ◌∷◌, ◌++◌, ℤ, Some, None, Decides, Option, sym, refl, ap, ◌∙◌, append_assoc, arith}
-use Rattle.std.specs.Cmp.Lexicographic.{Matches}
-use Rattle.std.specs.Str.{bytes_eq}
-use Rattle.std.proofs.lemmas.Slice.Eq.{slice_eq-Decides, bytes_eq-Decides}
-use Rattle.std.proofs.lemmas.Bool.Decides.{same_from_decides, Decides-eqb}
+use Rattle.std.proofs.Common.{◌≡◌, ℕ, Bool, true, false, List, [], ◌∷◌, ◌++◌, ℤ, Some, None, Option, sym, refl, ap, ◌∙◌, append_assoc, arith}
 use Rattle.script.specs.Numbers.{hex_bytes, joined_bytes, all_bytes, number_of, signed_of, Adds}
 use Rattle.script.specs.Meanings.{Meant, sets, unreadable, feeds_all, sets_all, sets_by, by_itself}
-
--- a test of a name
-pub tested : (name p : List ℕ) (r t : Bool) → Matches (λ (a b : ℕ) (t : Bool). Decides t (a ≡ b)) name p r → r ≡ t → bytes_eq name p ≡ t
-tested name p r t told e = same_from_decides (bytes_eq name p) r (bytes_eq-Decides name p) (slice_eq-Decides Decides-eqb name p r told) ∙ e
 
 -- a word that is not read leaves no bytes
 stops_at : (read : Bool) (xs ys : List ℕ) (word rest : Option (List ℕ)) → read ≡ false → Adds read xs word ys → None ≡ joined_bytes (Some xs) (joined_bytes word rest)

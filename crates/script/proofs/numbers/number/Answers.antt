@@ -4,11 +4,11 @@ use Rattle.script.proofs.numbers.number.Goals as goal
 
 pub returns-in_err-digit : goal.returns-in_err-digit
 returns-in_err-digit c =
-    c.from-residual.ensures ∙ no_digit c.args.word.now c.loop-byte.byte-index c.loop-byte.n _ c.loop-byte-test.true c.in_err-digit.ensures c.loop-byte.invariant.0
+    c.from_residual.ensures ∙ no_digit c.args.word.now c.loop-byte.byte-index c.loop-byte.n _ c.loop-byte-test.true c.in_err-digit.ensures c.loop-byte.invariant.0
 
 pub returns-in_err-n : goal.returns-in_err-n
 returns-in_err-n c =
-    c.from-residual-in_err-n.ensures
+    c.from_residual-in_err-n.ensures
     ∙ digit_too_many c.args.word.now c.loop-byte.byte-index c.loop-byte.n c.in_ok-digit.digit _ c.loop-byte-test.true c.in_ok-digit.ensures c.in_err-n.ensures c.loop-byte.invariant.0
 
 pub loop-byte-preserved : goal.loop-byte-preserved
