@@ -1,7 +1,7 @@
 -- An end has the meaning of a sink.
 use Rattle.std.proofs.Common.{◌≡◌, ℕ, ◌<◌, Bool, true, false, cond, eqb, leb, List, [], ◌∷◌, ◌++◌, length, set, is_some, Some, None, Ok, Err, Option, Result, sym, refl, ap, ◌∙◌, subst, ap₂, arith}
 use Rattle.sink.specs.Faults.{here}
-use Rattle.sink.specs.Calls.{Call, Start, Release, Hush, Tell, Set, Clear, Answer, ticket, denied, startable, tellable}
+use Rattle.sink.specs.Calls.{Call, Start, Release, Hush, Tell, Set, Clear, Answer, denied, startable, tellable}
 use Rattle.sink.specs.Meaning.{Meaning, is_ready, whether, Means, Began, Ended, Hushed}
 use Rattle.sink.specs.Layered.{Refused}
 use Rattle.sink.specs.declared.fault.Cause.{Cause}
