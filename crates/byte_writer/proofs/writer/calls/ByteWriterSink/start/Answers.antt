@@ -19,7 +19,7 @@ returns c =
     let ok : writer_check s ≡ Ok tt = sym c.check.ensures ∙ c.in_ok-check.was in
     let is-ch = c.of_start-struck.ensures.channel in
     let is-k = c.of_start-struck.ensures.number in
-    start_taken c.args.-place ch k v s _ t good ok record {
+    start_taken c.args._place ch k v s _ t good ok record {
       number = n;
       small = c.begin.ensures.small;
       fresh = c.begin.ensures.fresh;
