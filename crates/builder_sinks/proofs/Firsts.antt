@@ -1,8 +1,8 @@
 -- The first start of a log.
-use Rattle.std.proofs.Common.{◌≡◌, ℕ, zero, suc, ◌+◌, ◌-◌, ◌<◌, ◌≤◌, Bool, true, false, cond, ltb, leb, List, [], ◌∷◌, ◌++◌, get_or, replicate, pos, negsuc, is_some, Some, None, Ok, Err, Option, Result, sym, refl, ap, ◌∙◌, subst, ap₂, ⊎_elim, arith, ltb-false, ltb-true, le-ltb, lt-ltb}
+use Rattle.std.proofs.Common.{◌≡◌, ℕ, zero, suc, ◌-◌, ◌<◌, ◌≤◌, Bool, true, false, cond, ltb, [], ◌∷◌, ◌++◌, get_or, replicate, is_some, Some, None, Ok, Err, Result, sym, refl, ap, ◌∙◌, subst, ap₂, ⊎_elim, arith, le-ltb, lt-ltb}
 use Rattle.std.proofs.lemmas.Int.{ints}
 use Rattle.std.proofs.lemmas.Bool.{cases_lt}
-use Rattle.sink.specs.Faults.{here, Denial, number_of}
+use Rattle.sink.specs.Faults.{here}
 use Rattle.sink.specs.Calls.{Answer, ticket, done, denied, started}
 use Rattle.sink.specs.Meaning.{Readiness, is_ready, refuses, whether}
 use Rattle.sink.specs.declared.fault.Cause.{Cause}
@@ -10,8 +10,7 @@ use Rattle.sink.specs.declared.fault.Cause.TheVariants.{OutOfRange, AllOut, NoSp
 use Rattle.sink.proofs.Bools.{clash}
 use Rattle.sink.proofs.Handed.{not_ready}
 use Rattle.roll.specs.Notes.{lists, full}
-use Rattle.roll.specs.declared.note.Note.{Note}
-use Rattle.transposer.specs.Shift.{Folds, a_key, an_octave_off, an_octave_on}
+use Rattle.transposer.specs.Shift.{a_key, an_octave_off, an_octave_on}
 use Rattle.voice_log.specs.Lines.{one, begun_count}
 use Rattle.voice_log.specs.Serials.{tally}
 use Rattle.voice_log.specs.Log.{notes, written_lines, new_note, log_check, starts, Begins}

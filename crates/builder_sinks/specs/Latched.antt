@@ -1,5 +1,5 @@
 -- What a latched pipe means.
-use Rattle.std.specs.Prelude.{ℕ, Bool, true, false, ◌&&◌, ◌==◌}
+use Rattle.std.specs.Prelude.{Bool, true, false, ◌&&◌, ◌==◌}
 use Rattle.sink.specs.Faults.{here}
 use Rattle.sink.specs.Meaning.{Meaning, Readiness, is_ready, refuses}
 use Rattle.sink.specs.declared.fault.Cause.TheVariants.{AllOut}

@@ -73,7 +73,10 @@ fn lines_of_a_song(rt: HostRuntime) -> Result<(), Fail> {
     let (lines, written) = sink.finish().finish();
     assert!(rt; written == 4 && lines.len() == 16);
     let text = format!(in rt.alloc(); "{}, {}, {}, {}", lines[0], lines[1], lines[2], lines[3])?;
-    assert_eq!(rt; text.as_str(), "2 1 0 1 60 100, 5 1 1 1 120 90, 6 3 0 1 60 0, 11 2 1 1 120 33");
+    assert_eq!(rt;
+        text.as_str(),
+        "2 1 0 1 60 100, 5 1 1 1 120 90, 6 3 0 1 60 0, 11 2 1 1 120 33"
+    );
     Ok(())
 }
 

@@ -1,5 +1,5 @@
 -- Opened, fed once and closed is a past and its close.
-use Rattle.std.proofs.Common.{◌≡◌, ℕ, ◌+◌, List, [], ◌++◌, length, Ok, Err, Result, sym, ap, ◌∙◌, subst, arith}
+use Rattle.std.proofs.Common.{◌≡◌, ℕ, ◌+◌, List, [], length, Ok, Err, Result, sym, ap, ◌∙◌, subst, arith}
 use Rattle.sink.specs.declared.fault.refusal.Refusal
 use Rattle.sink.specs.declared.sink.Sink
 use Rattle.sink.specs.Calls.{Call, Answer}

@@ -15,7 +15,6 @@ use Rattle.reader.specs.declared.items.Message.TheVariants as m
 use Rattle.reader.specs.declared.states.State.TheVariants as s
 use Rattle.reader.specs.Rules.{Reading, message, part, reads, reaches}
 use Rattle.reader.specs.Ranges.{Ranged}
-use Rattle.reader.specs.Laws.{note_ons_of}
 use Rattle.reader.proofs.Joins.{states_join}
 use Rattle.run.specs.declared.counts.Counts.{Counts}
 use Rattle.run.specs.declared.counts.Tally.{Tally}
@@ -25,7 +24,7 @@ use Rattle.run.specs.declared.player.Player.{Player}
 use Rattle.run.specs.declared.runs.Run.{Run}
 use Rattle.run.specs.Counting.{fresh, tally_of, returned_by, started_by, strayed, passed_over, spot, at, entered, use_of}
 use Rattle.run.specs.Steps.{Event, start, release, InRanges, unchanged, Returned, Counted, Started, Called, Emptied, Swept, swept_none, swept_more, SweptThen, OnNoteOn, OnNoteOff, OnControl, OnMessage, OnReading, Played, played_none, played_more}
-use Rattle.run.specs.Past.{taken_in, denied_in, returned_in, number, Fair, tickets, Owes, Agree, Opened, Fed, Feeds, Sets, Closed, Past, opened, fed, fed_denied, set as setting, tallied, Stands, Rests, Closes, NoNoteLeft}
+use Rattle.run.specs.Past.{taken_in, denied_in, returned_in, number, Fair, tickets, Owes, Closed, Past, opened, fed, fed_denied, set as setting, tallied, Stands, Rests, Closes, NoNoteLeft}
 use Rattle.run.proofs.Notes.{on_count, on_counts, counts_append, counts_join}
 use Rattle.run.proofs.Tables.{none_some, true_false, false_if, in_table, emptied, filled, no_tickets, none_at, written, owes_ended, owes_began, owes_same, owes_none}
 

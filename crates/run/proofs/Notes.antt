@@ -1,5 +1,5 @@
 -- How many Note-ons there are.
-use Rattle.std.proofs.Common.{◌≡◌, ℕ, ◌+◌, List, [], ◌∷◌, ◌++◌, length, sym, refl, ap, ◌∙◌, append-nil, arith}
+use Rattle.std.proofs.Common.{◌≡◌, ℕ, ◌+◌, List, [], ◌∷◌, ◌++◌, length, sym, ap, ◌∙◌, append-nil, arith}
 use Rattle.reader.specs.declared.items.Message.{Message}
 use Rattle.reader.specs.declared.items.Message.TheVariants as m
 use Rattle.reader.specs.declared.states.State.{State}

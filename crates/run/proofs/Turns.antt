@@ -1,5 +1,5 @@
 -- One turn of a feed, and its beginning.
-use Rattle.std.proofs.Common.{◌≡◌, ℕ, List, [], ◌∷◌, ◌++◌, length, None, Option, sym, ap, ◌∙◌, append_assoc}
+use Rattle.std.proofs.Common.{◌≡◌, List, [], ◌∷◌, ◌++◌, length, None, Option, sym, ap, ◌∙◌, append_assoc}
 use Rattle.reader.specs.Rules.{Reading}
 use Rattle.reader.specs.Ahead.{listed}
 use Rattle.reader.specs.declared.items.Item.{Item}

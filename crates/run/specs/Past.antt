@@ -1,10 +1,10 @@
 -- Every past of a run, and what is true after it.
-use Rattle.std.specs.Prelude.{◌≡◌, ℕ, ◌+◌, ◌<◌, ◌≤◌, true, false, List, [], ◌∷◌, ◌++◌, length, replicate, ℤ, Some, None, Ok, Err, Option, Result}
+use Rattle.std.specs.Prelude.{◌≡◌, ℕ, ◌+◌, ◌<◌, ◌≤◌, true, List, [], ◌∷◌, ◌++◌, length, replicate, ℤ, Some, None, Ok, Err, Option, Result}
 use Rattle.std.specs.List.{AllByRecursion}
 use Rattle.sink.specs.declared.fault.refusal.Refusal
 use Rattle.sink.specs.declared.sink.Sink
 use Rattle.sink.specs.Calls.{Call, Set, Clear, Answer, ticket, done, denied}
-use Rattle.sink.specs.Meaning.{Meaning, Readiness, is_ready, refuses, Idle}
+use Rattle.sink.specs.Meaning.{Meaning, is_ready, refuses, Idle}
 use Rattle.sink.specs.Faults.{Denial}
 use Rattle.sink.specs.Ends.{End, Each, clean, complete}
 use Rattle.reader.specs.Rules.{reads, reaches}

@@ -1,4 +1,4 @@
-use Rattle.std.proofs.Common.{◌≡◌, rules}
+use Rattle.std.proofs.Common.{rules}
 use Rattle.builder_sinks.proofs.Firsts.{folding}
 use Rattle.builder_sinks.proofs.examples.folded.Goals as goal
 
