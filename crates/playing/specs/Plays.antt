@@ -1,6 +1,6 @@
 -- What is true once a stream is played and its run closed.
 use Rattle.std.specs.Prelude.{◌≡◌, ℕ, ◌+◌, ◌<◌, ◌≤◌, List, [], length, Ok, Err, Result}
-use Rattle.reader.specs.declared.states.State.TheVariants.{Idle as idle-state}
+use Rattle.reader.specs.declared.states.State.TheVariants.{Idle as idle_state}
 use Rattle.reader.specs.Rules.{reads}
 use Rattle.reader.specs.Laws.{note_ons_of}
 use Rattle.sink.specs.Ends.{End, Each, clean, complete}
@@ -21,7 +21,7 @@ bytes_read (Err e) bytes = []
 -- the tally of these bytes: each Note-on in them was taken or denied, and every ticket returned
 pub record Told {F : Type 0} (bytes : List ℕ) (tally : Tally F) : Type 0 where
   pub count : tally.count ≡ length bytes
-  pub note_ons : tally.note_ons ≡ length (note_ons_of (reads idle-state 0 bytes))
+  pub note_ons : tally.note_ons ≡ length (note_ons_of (reads idle_state 0 bytes))
   pub starts : tally.note_ons ≡ tally.taken + tally.denied
   pub even : tally.taken ≡ tally.returned
 

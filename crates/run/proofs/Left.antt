@@ -19,7 +19,7 @@ use Rattle.reader.proofs.Joins.{states_join}
 use Rattle.run.specs.declared.counts.Counts.{Counts}
 use Rattle.run.specs.declared.counts.Tally.{Tally}
 use Rattle.run.specs.declared.player.acts.ControlUse.{ControlUse}
-use Rattle.run.specs.declared.player.acts.ControlUse.TheVariants as use-is
+use Rattle.run.specs.declared.player.acts.ControlUse.TheVariants as use_is
 use Rattle.run.specs.declared.player.Player.{Player}
 use Rattle.run.specs.declared.runs.Run.{Run}
 use Rattle.run.specs.Counting.{fresh, tally_of, returned_by, started_by, strayed, passed_over, spot, at, entered, use_of}
@@ -269,9 +269,9 @@ module _ {S F : Type 0} (gs : Sink.Ghosts S F) (gf : Refusal.Ghosts F) (sees : F
   off_grows p c k v h (inr x) = gave_grows p (spot c k) x.0 v h x.1
 
   worked_grows : (b b' : Player S F gs gf) (fs : List (Event F)) (w : ControlUse) (p c n v : ℕ) → OnControl meaning does w p c n v b fs b' → Grows b fs b' 0
-  worked_grows b b' fs use-is.Tell p c n v step = told_grows (Tell p c n v) tt step
-  worked_grows b b' fs use-is.ReleaseAndTell p c n v step = dropped_grows p (128 * c) (128 * c + 128) (Tell p c n v) tt step
-  worked_grows b b' fs use-is.PassOver p c n v step = noted_grows passed_over plain_passed step
+  worked_grows b b' fs use_is.Tell p c n v step = told_grows (Tell p c n v) tt step
+  worked_grows b b' fs use_is.ReleaseAndTell p c n v step = dropped_grows p (128 * c) (128 * c + 128) (Tell p c n v) tt step
+  worked_grows b b' fs use_is.PassOver p c n v step = noted_grows passed_over plain_passed step
 
   acted_grows : (b b' : Player S F gs gf) (fs : List (Event F)) (p : ℕ) (x : Message) → Ranged x → OnMessage meaning does p x b fs b' → Grows b fs b' (on_count (message p x))
   acted_grows b b' fs p m.Reset h step = dropped_grows p 0 2048 (Clear p) tt step

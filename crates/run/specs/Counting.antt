@@ -5,7 +5,7 @@ use Rattle.run.specs.declared.counts.Counts.{Counts}
 use Rattle.run.specs.declared.counts.DeniedStart.{DeniedStart}
 use Rattle.run.specs.declared.counts.Tally.{Tally}
 use Rattle.run.specs.declared.player.acts.ControlUse.{ControlUse}
-use Rattle.run.specs.declared.player.acts.ControlUse.TheVariants as use-is
+use Rattle.run.specs.declared.player.acts.ControlUse.TheVariants as use_is
 
 -- all counts together, which bounds each of them
 abbrev pub total : {F : Type 0} → Counts F → ℕ
@@ -64,5 +64,5 @@ entered i (denied f) T = T
 -- the pedals and Reset All Controllers are told; All Sound Off and the modes from All Notes Off on release the channel's tickets first; any other is passed over
 abbrev pub use_of : ℕ → ControlUse
 use_of n =
-    cond (n == 64 || (n == 66 || n == 121)) use-is.Tell (
-    cond (n == 120 || (nat_le 123 n && nat_le n 127)) use-is.ReleaseAndTell use-is.PassOver)
+    cond (n == 64 || (n == 66 || n == 121)) use_is.Tell (
+    cond (n == 120 || (nat_le 123 n && nat_le n 127)) use_is.ReleaseAndTell use_is.PassOver)

@@ -10,7 +10,7 @@ use Rattle.reader.specs.Rules.{Reading, message, part}
 use Rattle.reader.specs.Ranges.{Ranged}
 use Rattle.run.specs.declared.counts.Counts.{Counts}
 use Rattle.run.specs.declared.player.acts.ControlUse.{ControlUse}
-use Rattle.run.specs.declared.player.acts.ControlUse.TheVariants as use-is
+use Rattle.run.specs.declared.player.acts.ControlUse.TheVariants as use_is
 use Rattle.run.specs.declared.player.Player.{Player}
 use Rattle.run.specs.Counting.{returned_by, started_by, strayed, passed_over, spot, at, entered, use_of}
 
@@ -88,9 +88,9 @@ module _ {S F : Type 0} {gs : Sink.Ghosts S F} {gf : Refusal.Ghosts F} (meaning 
   OnNoteOff place c k v b es b' = ((at b.table (spot c k) ≡ None) × Counted strayed b es b') ⊎ ((t : ℕ) × Returned place (spot c k) t v b es b')
 
   abbrev pub OnControl : ControlUse → (place c n v : ℕ) → Player S F gs gf → List (Event F) → Player S F gs gf → Type 0
-  OnControl use-is.Tell place c n v b es b' = Called (Tell place c n v) b es b'
-  OnControl use-is.ReleaseAndTell place c n v b es b' = SweptThen place (128 * c) (128 * c + 128) (Tell place c n v) b es b'
-  OnControl use-is.PassOver place c n v b es b' = Counted passed_over b es b'
+  OnControl use_is.Tell place c n v b es b' = Called (Tell place c n v) b es b'
+  OnControl use_is.ReleaseAndTell place c n v b es b' = SweptThen place (128 * c) (128 * c + 128) (Tell place c n v) b es b'
+  OnControl use_is.PassOver place c n v b es b' = Counted passed_over b es b'
 
   abbrev pub OnMessage : ℕ → Message → Player S F gs gf → List (Event F) → Player S F gs gf → Type 0
   OnMessage p (m.NoteOff c k v) b es b' = OnNoteOff p c k v b es b'
