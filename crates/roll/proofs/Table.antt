@@ -1,7 +1,6 @@
 -- What the roll's loops need of lists of notes.
-use Rattle.std.proofs.Common.{◌≡◌, ℕ, zero, suc, ◌+◌, ◌<◌, ◌≤◌, Bool, true, false, cond, not, ◌&&◌, ◌||◌, eqb, List, [], ◌∷◌, ◌++◌, length, get_or, take, drop, set, Some, None, Option, sym, refl, ap, ◌∙◌, subst, append-nil, le_of_suc-le-suc, not-suc-le-zero, add-one, arith, length-take-le, get_or-take, take-take, take-suc-set, drop-set-lt, eq-eqb}
-use borrow.Author.Tests.{both_ways}
-use lib.Seq.{take-set-lt, take-set-le}
+use Rattle.std.proofs.Common.{◌≡◌, ℕ, zero, suc, ◌+◌, ◌<◌, ◌≤◌, Bool, true, false, cond, eqb, List, [], ◌∷◌, ◌++◌, length, get_or, take, drop, set, Some, None, sym, refl, ap, ◌∙◌, append-nil, le_of_suc-le-suc, not-suc-le-zero, add-one, arith, length-take-le, get_or-take, take-take, drop-set-lt, eq-eqb}
+use lib.Seq.{take-set-lt}
 use Rattle.std.proofs.lemmas.List.{take_more, take_more_set}
 use Rattle.std.proofs.lemmas.Bool.{or_parts, or_from}
 use Rattle.roll.specs.declared.note.Note.{Note}

@@ -1,6 +1,6 @@
 -- What becomes of the tickets of a list of notes when one is added or dropped.
-use Rattle.std.proofs.Common.{◌≡◌, ℕ, zero, suc, ◌+◌, ◌<◌, ◌≤◌, Bool, true, false, cond, not, ◌&&◌, ◌||◌, eqb, leb, List, [], ◌∷◌, ◌++◌, length, is_some, Some, None, Option, sym, refl, ap, ◌∙◌, subst, arith, eq-eqb, ne_eqb, eqb-true, leb-false}
-use mathlib.Core.Bool.{and-false, and-true}
+use Rattle.std.proofs.Common.{◌≡◌, ℕ, zero, suc, ◌<◌, ◌≤◌, Bool, true, false, cond, not, ◌&&◌, ◌||◌, eqb, List, [], ◌∷◌, ◌++◌, length, is_some, Some, None, Option, sym, refl, ap, ◌∙◌, arith, eq-eqb, ne_eqb, eqb-true, leb-false}
+use mathlib.Core.Bool.{and-false}
 use borrow.Author.Tests.{both_ways, eqb-false, lt-leb}
 use Rattle.roll.specs.declared.note.Note.{Note}
 use Rattle.roll.specs.declared.note.Pick.TheVariants.{Ticket}

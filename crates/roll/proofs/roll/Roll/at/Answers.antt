@@ -1,4 +1,4 @@
-use Rattle.std.proofs.Common.{length, take, sym, ◌∙◌, arith, length-take-le, get_or-take}
+use Rattle.std.proofs.Common.{take, sym, ◌∙◌, arith, length-take-le, get_or-take}
 use Rattle.std.proofs.lemmas.List.{get_or_past}
 use Rattle.roll.specs.Notes.{blank}
 use Rattle.roll.proofs.roll.Roll.at.Goals as goal

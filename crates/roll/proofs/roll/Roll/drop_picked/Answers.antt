@@ -1,4 +1,3 @@
-use borrow.Author.Tests.{not-true, not-false}
 use Rattle.std.proofs.Common.{◌≡◌, ◌+◌, take, drop, sym, refl, ap, ◌∙◌, ap₂, arith}
 use Rattle.roll.specs.declared.roll.Roll.{Roll}
 use Rattle.roll.specs.Notes.{blank, picked, left_out}
