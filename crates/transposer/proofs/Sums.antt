@@ -6,7 +6,7 @@ use Rattle.sink.specs.Layered.{passed, Refused}
 use Rattle.sink.specs.declared.fault.Cause.TheVariants.{OutOfRange}
 use Rattle.sink.specs.declared.fault.LayerFault.{LayerFault}
 use Rattle.sink.specs.declared.fault.LayerFault.TheVariants.{Own}
-use Rattle.transposer.specs.Adding.{Reaches, ShiftsAdd}
+use Rattle.transposer.specs.Adding.{ShiftsAdd}
 use Rattle.transposer.specs.Transposer.{Moved, TransposerDoes}
 use Rattle.transposer.specs.declared.transposer.Transposer.{Transposer}
 use Rattle.transposer.specs.Folded.{is_key, from_key}

@@ -2,17 +2,17 @@
 use Rattle.std.specs.Prelude.{◌≡◌, ℕ, ◌-◌, ◌≤◌, Bool, true, false, cond, ◌&&◌, ℤ, ◌==◌, nat_le, refl}
 use Rattle.std.proofs.Common.{sym, ap, ap₂, subst, arith, le-leb}
 use Rattle.std.proofs.lemmas.Bool.{and_parts}
-use Rattle.sink.specs.Faults.{Denial, here, layer_denial}
-use Rattle.sink.specs.Calls.{Call, Start, Release, Hush, Tell, Set, Clear, Answer, ticket, done, denied, startable, tellable}
+use Rattle.sink.specs.Faults.{Denial, layer_denial}
+use Rattle.sink.specs.Calls.{Call, Start, Release, Hush, Tell, Set, Clear, Answer, denied, startable, tellable}
 use Rattle.sink.specs.Meaning.{Meaning, Means, Orderly}
-use Rattle.sink.specs.Layered.{passed, Refused, Handed}
+use Rattle.sink.specs.Layered.{Refused}
 use Rattle.sink.specs.declared.fault.Cause.TheVariants.{OutOfRange, TellOutOfRange, NoSuchItem, ValueOutOfRange}
 use Rattle.sink.specs.declared.fault.LayerFault.{LayerFault}
 use Rattle.sink.specs.declared.fault.LayerFault.TheVariants.{Own}
 use Rattle.sink.proofs.Bools.{clash}
 use Rattle.sink.proofs.Handed.{Checked, handed, refused, rekeyed, redepthed, layer_orderly, quieter_same}
 use Rattle.transposer.specs.Shift.{in_range}
-use Rattle.transposer.specs.Transposer.{never_full, keeps_none, transposer_meaning, TransposerSound, On, Moved, Shifted, sets, TransposerDoes}
+use Rattle.transposer.specs.Transposer.{never_full, keeps_none, transposer_meaning, On, Moved, Shifted, TransposerDoes}
 use Rattle.transposer.specs.declared.transposer.Transposer.{Transposer}
 use Rattle.transposer.specs.Folded.{is_key}
 

@@ -1,6 +1,6 @@
 -- What a transposer means, and what each call does to it and asks of the sink below.
-use Rattle.std.specs.Prelude.{◌≡◌, ℕ, ◌-◌, Bool, true, false, cond, ℤ, pos, ◌+ℤ◌, ◌==◌, nat_le}
-use Rattle.sink.specs.Calls.{Call, Start, Release, Hush, Tell, Set, Clear, Answer, done, denied, startable, tellable}
+use Rattle.std.specs.Prelude.{◌≡◌, ℕ, ◌-◌, Bool, false, cond, ℤ, pos, ◌+ℤ◌, ◌==◌, nat_le}
+use Rattle.sink.specs.Calls.{Call, Start, Release, Hush, Tell, Set, Clear, Answer, done, startable, tellable}
 use Rattle.sink.specs.Meaning.{Meaning}
 use Rattle.sink.specs.Layered.{layered, Refused, Handed}
 use Rattle.sink.specs.declared.fault.Cause.TheVariants.{OutOfRange, TellOutOfRange, NoSuchItem, ValueOutOfRange}

@@ -1,6 +1,6 @@
-use Rattle.std.proofs.Common.{◌≡◌, pos, ◌+ℤ◌, ◌-ℤ◌, nat_abs, sym, refl, subst, arith, rules}
+use Rattle.std.proofs.Common.{subst, arith, rules}
 use Rattle.std.proofs.lemmas.Int.{ints}
-use Rattle.transposer.specs.Shift.{Folds, a_key, an_octave_off, an_octave_on}
+use Rattle.transposer.specs.Shift.{Folds, an_octave_off, an_octave_on}
 use Rattle.transposer.specs.Folded.{one_key, itself, off_less, on_less}
 use Rattle.transposer.proofs.shift.Shift.moved.Goals as goal
 
