@@ -1,27 +1,27 @@
 -- A voice log has the meaning of a sink.
-use Rattle.std.specs.Prelude.{◌≡◌, ℕ, ◌+◌, ◌-◌, ◌<◌, ◌≤◌, Bool, true, false, cond, not, ◌&&◌, ◌||◌, ltb, List, [], ◌∷◌, ◌++◌, length, take, is_some, is_ok, Some, None, Ok, Err, vec_items, vec_len, Option, Result, ◌==◌, nat_le, nat_lt, slice_index_or, slice_set, refl}
-use Rattle.std.proofs.Common.{sym, ap, ap₂, subst, ◌∙◌, arith, eqb-true, ltb-false, le-ltb, length-set}
-use Rattle.std.proofs.Math.Bool.{and-true, and-false, or-false}
+use Rattle.std.specs.Prelude.{◌≡◌, ℕ, ◌-◌, ◌<◌, Bool, true, false, cond, not, ◌&&◌, ◌||◌, ltb, List, [], ◌∷◌, ◌++◌, length, take, is_some, Some, None, Ok, Err, vec_items, Option, Result, ◌==◌, nat_le, nat_lt, slice_index_or, slice_set, refl}
+use Rattle.std.proofs.Common.{sym, ap, ap₂, subst, ◌∙◌, arith, length-set}
+use Rattle.std.proofs.Math.Bool.{and-true, and-false}
 use Rattle.std.proofs.lemmas.List.{take_more_set}
-use Rattle.std.proofs.lemmas.Bool.{and_parts, both_ways}
+use Rattle.std.proofs.lemmas.Bool.{and_parts}
 use Rattle.sink.specs.Faults.{here}
-use Rattle.sink.specs.Calls.{Call, Start, Release, Hush, Tell, Set, Clear, Answer, ticket, done, denied, startable, tellable}
-use Rattle.sink.specs.Meaning.{Meaning, Readiness, is_ready, refuses, whether, Means}
+use Rattle.sink.specs.Calls.{Call, Start, Release, Hush, Tell, Set, Clear, Answer, denied, startable, tellable}
+use Rattle.sink.specs.Meaning.{is_ready, whether, Means}
 use Rattle.sink.specs.Layered.{Refused}
 use Rattle.sink.specs.declared.fault.Cause.{Cause}
 use Rattle.sink.specs.declared.fault.Cause.TheVariants.{OutOfRange, AllOut, NoSpace, NotOwed, TellOutOfRange, NoLayer}
 use Rattle.sink.proofs.Bools.{clash, refuted, self_eq, same_or}
 use Rattle.sink.proofs.Handed.{refused, quieter_same, cleared_same, not_ready}
-use Rattle.roll.specs.Notes.{found, lists, full, picked, left_out, Distinct}
+use Rattle.roll.specs.Notes.{found, lists, full, picked, Distinct}
 use Rattle.roll.specs.Rolls.{listed}
 use Rattle.roll.specs.declared.note.Note.{Note}
 use Rattle.roll.specs.declared.note.Pick.TheVariants.{Ticket}
 use Rattle.roll.proofs.Tickets.{found_lists, lists_snoc, distinct_snoc, lists_drop, distinct_drop, full_left}
 use Rattle.voice_log.specs.Lines.{one, is_begun, begun_count}
 use Rattle.voice_log.specs.Serials.{tally, Told}
-use Rattle.voice_log.specs.Log.{written_lines, notes, serial_of, log_check, log_meaning, Writes, Silent, stop_line, StopLine, Stops, new_note, begun_line, Begins, Ends, Hushes, Same, starts, releases, hushes, LogDoes, LogSound}
+use Rattle.voice_log.specs.Log.{written_lines, notes, serial_of, log_check, log_meaning, Writes, stop_line, StopLine, new_note, begun_line, Begins, Ends, Hushes, Same, starts, releases, hushes, LogDoes, LogSound}
 use Rattle.voice_log.specs.declared.line.Kind.{Kind}
-use Rattle.voice_log.specs.declared.line.Kind.TheVariants.{Begun, Ended, Hushed}
+use Rattle.voice_log.specs.declared.line.Kind.TheVariants.{Ended, Hushed}
 use Rattle.voice_log.specs.declared.line.Line.{Line}
 use Rattle.voice_log.specs.declared.log.VoiceLog.{VoiceLog}
 use Rattle.voice_log.specs.Tallies.{at_set, tally_stop, set_none}

@@ -1,7 +1,7 @@
 -- What a voice log means, and what each call writes.
-use Rattle.std.specs.Prelude.{◌≡◌, ℕ, ◌+◌, ◌-◌, ◌<◌, ◌≤◌, Bool, true, false, cond, List, [], ◌∷◌, ◌++◌, take, set, is_some, Some, None, Ok, Err, vec_items, Option, Result, ◌≢◌, nat_le, nat_lt, slice_index_or, slice_set}
+use Rattle.std.specs.Prelude.{◌≡◌, ℕ, ◌+◌, ◌-◌, ◌<◌, ◌≤◌, true, false, cond, List, [], ◌∷◌, ◌++◌, take, is_some, Some, None, Ok, Err, vec_items, Option, Result, ◌≢◌, nat_le, nat_lt, slice_index_or, slice_set}
 use Rattle.sink.specs.Faults.{here}
-use Rattle.sink.specs.Calls.{Call, Start, Release, Hush, Tell, Set, Clear, Answer, ticket, done, denied, startable, tellable}
+use Rattle.sink.specs.Calls.{Call, Start, Release, Hush, Tell, Set, Clear, Answer, ticket, done, startable, tellable}
 use Rattle.sink.specs.Meaning.{Meaning, whether}
 use Rattle.sink.specs.Layered.{Refused}
 use Rattle.sink.specs.Ends.{End}

@@ -1,5 +1,5 @@
 -- For each ticket the serial of its begun line while it sounds.
-use Rattle.std.specs.Prelude.{◌≡◌, ℕ, ◌+◌, Bool, true, false, cond, List, [], ◌∷◌, is_some, Some, None, Option, ◌==◌, nat_lt}
+use Rattle.std.specs.Prelude.{◌≡◌, ℕ, ◌+◌, Bool, false, List, [], ◌∷◌, is_some, Some, None, Option, ◌==◌, nat_lt}
 use Rattle.voice_log.specs.Lines.{one, begun_count, begins, stops, Clean}
 use Rattle.voice_log.specs.declared.line.Line.{Line}
 

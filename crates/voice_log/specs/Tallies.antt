@@ -1,6 +1,6 @@
 -- Counting the tickets that sound.
 use Rattle.std.specs.Prelude.{◌≡◌, ℕ, zero, suc, ◌+◌, ◌<◌, ◌≤◌, Bool, true, false, cond, List, [], ◌∷◌, length, replicate, is_some, Some, None, Option, ◌==◌, ◌≢◌, slice_index_or, slice_set, refl}
-use Rattle.std.proofs.Common.{sym, ap, ◌∙◌, ne_eqb, le_of_suc-le-suc, not-suc-le-zero, arith, ⊎_elim}
+use Rattle.std.proofs.Common.{sym, ap, ne_eqb, le_of_suc-le-suc, not-suc-le-zero, arith, ⊎_elim}
 use Rattle.std.proofs.Math.Dec.{eqb-suc-zero, eqb-zero-suc, eqb-suc-suc}
 use Rattle.std.proofs.lemmas.List.{set_past}
 use Rattle.std.proofs.lemmas.Bool.{cases_lt}

@@ -1,5 +1,5 @@
-use Rattle.std.proofs.Common.{◌≡◌, ℕ, ◌<◌, ◌≤◌, Bool, true, false, length, is_some, sym, refl, ap, ◌∙◌, arith, below_more, leb-false}
-use Rattle.roll.specs.Notes.{lists, full}
+use Rattle.std.proofs.Common.{◌≡◌, Bool, true, false, length, is_some, sym, refl, ap, ◌∙◌, arith, below_more, leb-false}
+use Rattle.roll.specs.Notes.{lists}
 use Rattle.roll.specs.Rolls.{listed}
 use Rattle.roll.proofs.Tickets.{found_lists, all_listed}
 use Rattle.voice_log.proofs.log.VoiceLog.free_ticket.Goals as goal

@@ -1,4 +1,4 @@
-use Rattle.std.proofs.Common.{◌≡◌, min, true, get_or, replicate, is_some, None, sym, refl, ap, ◌∙◌, subst, arith, rules}
+use Rattle.std.proofs.Common.{◌≡◌, get_or, is_some, None, sym, refl, ap, ◌∙◌, subst, arith, rules}
 use Rattle.sink.proofs.Bools.{clash}
 use Rattle.roll.specs.Notes.{lists, Distinct}
 use Rattle.voice_log.specs.Lines.{begun_count}

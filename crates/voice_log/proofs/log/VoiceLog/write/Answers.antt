@@ -1,5 +1,5 @@
-use Rattle.std.proofs.Common.{◌≡◌, sym, refl, ap, ◌∙◌, arith, length-set}
-use Rattle.voice_log.specs.Lines.{one, is_begun}
+use Rattle.std.proofs.Common.{arith}
+use Rattle.voice_log.specs.Lines.{is_begun}
 use Rattle.voice_log.specs.Tallies.{one_le}
 use Rattle.voice_log.specs.Written.{begun_within, begun_next}
 use Rattle.voice_log.proofs.log.VoiceLog.write.Goals as goal

@@ -1,4 +1,4 @@
-use Rattle.std.proofs.Common.{◌≡◌, is_some, sym, refl, ap, ◌∙◌, arith, length-set}
+use Rattle.std.proofs.Common.{is_some, sym, arith, length-set}
 use Rattle.voice_log.specs.Tallies.{tally_set, tally_some, tally_le, one_le}
 use Rattle.std.proofs.lemmas.List.{set_past}
 use Rattle.voice_log.proofs.sounding.Sounding.put.Goals as goal
