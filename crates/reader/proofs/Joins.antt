@@ -1,14 +1,12 @@
 -- Pieces join, and a real-time byte stands apart.
-use Rattle.std.proofs.Common.{◌≡◌, ℕ, ◌+◌, ◌<◌, ◌≤◌, Bool, true, false, cond, ◌||◌, eqb, List, [], ◌∷◌, ◌++◌, map, length, sym, refl, ap, ◌∙◌, subst, append_assoc, append-nil, arith}
+use Rattle.std.proofs.Common.{◌≡◌, ℕ, ◌+◌, ◌<◌, ◌≤◌, Bool, true, false, cond, ◌||◌, eqb, List, [], ◌∷◌, ◌++◌, map, length, sym, refl, ap, ◌∙◌, append_assoc, append-nil, arith}
 use Rattle.std.proofs.lemmas.Bool.Decides.{nat_tests}
 use Rattle.reader.specs.declared.items.Message.{Message}
 use Rattle.reader.specs.declared.items.Message.TheVariants as m
-use Rattle.reader.specs.declared.states.Class.{Class}
-use Rattle.reader.specs.declared.states.Class.TheVariants as k
 use Rattle.reader.specs.declared.states.State.{State}
 use Rattle.reader.specs.declared.states.State.TheVariants as s
 use Rattle.reader.specs.Rules.{Reading, message, part, put, joined, belongs, reading, bytewise, gives, leads, reads, reaches}
-use Rattle.reader.specs.Laws.{reads_each, reaches_each, concat, if_note_on, note_ons_of, later, TwoPiecesJoin, PiecesJoin, NoteOnsJoin, RealTimeApart}
+use Rattle.reader.specs.Laws.{reads_each, concat, if_note_on, note_ons_of, later, TwoPiecesJoin, PiecesJoin, NoteOnsJoin, RealTimeApart}
 
 pub states_join : (st : State) (xs ys : List ℕ) → reaches (reaches st xs) ys ≡ reaches st (xs ++ ys)
 states_join st [] ys = refl

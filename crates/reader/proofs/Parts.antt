@@ -1,12 +1,12 @@
 -- What a run of an exclusive's data bytes gives.
-use Rattle.std.proofs.Common.{◌≡◌, ℕ, zero, suc, ◌+◌, ◌<◌, ◌≤◌, Bool, true, false, cond, List, [], ◌∷◌, ◌++◌, map, length, get_or, take, drop, sym, refl, ap, ◌∙◌, subst, arith}
+use Rattle.std.proofs.Common.{◌≡◌, ℕ, zero, suc, ◌+◌, ◌<◌, ◌≤◌, true, List, [], ◌∷◌, ◌++◌, map, length, get_or, take, drop, sym, refl, ap, ◌∙◌, subst, arith}
 use Rattle.std.proofs.lemmas.Bool.Decides.{nat_tests}
 use Rattle.reader.specs.declared.items.Message.{Message}
 use Rattle.reader.specs.declared.states.Class.{Class}
 use Rattle.reader.specs.declared.states.Class.TheVariants as k
 use Rattle.reader.specs.declared.states.State.{State}
 use Rattle.reader.specs.declared.states.State.TheVariants as s
-use Rattle.reader.specs.Rules.{Reading, message, part, class, gives, gives_by, leads, belongs, put, joined, reading, bytewise, reads, reaches}
+use Rattle.reader.specs.Rules.{message, part, class, gives, gives_by, leads, belongs, put, joined, reading, bytewise, reads, reaches}
 use Rattle.reader.specs.Steps.{AllData}
 
 pub in_exclusive : (st : State) (b : ℕ) → belongs st b ≡ true → (st ≡ s.Exclusive) × (b < 0x80)

@@ -1,8 +1,8 @@
 -- Places never fall, and lie within the piece.
-use Rattle.std.proofs.Common.{◌≡◌, ℕ, ◌+◌, ◌<◌, ◌≤◌, Bool, true, false, cond, List, [], ◌∷◌, ◌++◌, map, length, sym, refl, ap, ◌∙◌, subst, arith}
+use Rattle.std.proofs.Common.{◌≡◌, ℕ, ◌+◌, ◌<◌, ◌≤◌, Bool, true, false, cond, List, [], ◌∷◌, ◌++◌, map, length, subst, arith}
 use Rattle.reader.specs.declared.items.Message.{Message}
 use Rattle.reader.specs.declared.states.State.{State}
-use Rattle.reader.specs.Rules.{Reading, message, part, put, joined, belongs, reading, bytewise, gives, leads, reads}
+use Rattle.reader.specs.Rules.{Reading, message, part, put, joined, belongs, bytewise, gives, leads}
 use Rattle.reader.specs.Laws.{place_of, Rising, PlacesRise}
 
 rising_from : (lo lo' hi : ℕ) (rs : List Reading) → lo' ≤ lo → Rising lo hi rs → Rising lo' hi rs

@@ -1,4 +1,4 @@
-use Rattle.std.proofs.Common.{◌≡◌, ◌≤◌, length, sym, subst, arith, length-drop, true-eqb}
+use Rattle.std.proofs.Common.{sym, subst, arith, length-drop, true-eqb}
 use Rattle.std.proofs.lemmas.List.{length-take}
 use Rattle.reader.specs.Ranges.{InRange}
 use Rattle.reader.proofs.Turns.{first, again, state_on, at_most_one, over}
