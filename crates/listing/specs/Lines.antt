@@ -1,5 +1,5 @@
 -- The text of an item.
-use Rattle.std.specs.Prelude.{ℕ, ◌/◌, ◌%◌, true, false, cond, List, [], ◌∷◌, ◌++◌, codes, decimal}
+use Rattle.std.specs.Prelude.{ℕ, ◌/◌, ◌%◌, true, cond, List, [], ◌∷◌, ◌++◌, codes, decimal}
 use Rattle.std.specs.Fmt.{signed_decimal, digit_glyph}
 use Rattle.reader.specs.declared.items.Message.{Message}
 use Rattle.reader.specs.declared.items.Message.TheVariants as m
