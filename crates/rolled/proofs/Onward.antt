@@ -3,14 +3,13 @@ use Rattle.std.proofs.Common.{◌≡◌, ℕ, Bool, true, false, cond, not, ◌&
 use Rattle.sink.specs.Faults.{Denial, layer_denial}
 use Rattle.sink.specs.Calls.{Call, Start, Release, Hush, Tell, Set, Clear, Answer, ticket, done, denied, startable, tellable}
 use Rattle.sink.specs.Meaning.{Meaning, Means, Orderly, Idle}
-use Rattle.sink.specs.Layered.{passed, layered}
+use Rattle.sink.specs.Layered.{passed}
 use Rattle.sink.specs.declared.fault.LayerFault.{LayerFault}
 use Rattle.sink.proofs.Bools.{clash}
 use Rattle.sink.proofs.Handed.{Checked, IfDenied, handed_if, layer_orderly}
 use Rattle.roll.specs.declared.note.Note.{Note}
 use Rattle.roll.specs.declared.note.Pick.TheVariants.{Ticket}
-use Rattle.roll.specs.declared.roll.Roll.{Roll}
-use Rattle.roll.specs.Notes.{found, lists, added, left_out, picked, Distinct, full}
+use Rattle.roll.specs.Notes.{lists, added, left_out, picked, Distinct, full}
 use Rattle.roll.specs.Rolls.{listed}
 use Rattle.roll.proofs.Tickets.{lists_snoc, distinct_snoc, lists_drop, full_left}
 use Rattle.rolled.specs.declared.rolled.Rolled.{Rolled}

@@ -6,7 +6,7 @@ use Rattle.sink.specs.Calls.{Call, Hush, Answer, ticket, done, denied}
 use Rattle.sink.specs.Meaning.{Meaning, Began, Quieter, Means}
 use Rattle.sink.proofs.Bools.{clash, refuted, self_eq}
 use Rattle.std.proofs.lemmas.Bool.{and_parts}
-use Rattle.rolled.specs.Chains.{named, HushOne, Hushes, no_hush, one_hush}
+use Rattle.rolled.specs.Chains.{named, Hushes, no_hush, one_hush}
 use Rattle.rolled.proofs.Below.{Lawful}
 use Rattle.rolled.proofs.Gone.{named_append}
 

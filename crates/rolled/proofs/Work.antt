@@ -1,6 +1,6 @@
 -- A layer's own work before it hands a call on: what it does to the layer's meaning.
-use Rattle.std.proofs.Common.{◌≡◌, ℕ, Bool, true, false, not, ◌&&◌, ◌||◌, List, [], ◌∷◌, sym, refl, ap, ◌∙◌, subst, ap₂}
-use mathlib.Core.Bool.{and-true, or-true}
+use Rattle.std.proofs.Common.{◌≡◌, ℕ, Bool, true, false, not, ◌&&◌, ◌||◌, List, sym, refl, ap, ◌∙◌, subst, ap₂}
+use mathlib.Core.Bool.{or-true}
 use Rattle.sink.specs.Faults.{Denial}
 use Rattle.sink.specs.Calls.{Call, Start, Release, Hush, Tell, Set, Clear, Answer, ticket, done, denied, startable, tellable}
 use Rattle.sink.specs.Meaning.{Meaning, Readiness, is_ready, refuses, Quieter, Means}

@@ -1,5 +1,5 @@
 -- A sink below with the roll of the notes that are owed there.
-use Rattle.std.specs.Prelude.{◌≡◌, ℕ, Bool, true, false, List, [], Some, None, Option}
+use Rattle.std.specs.Prelude.{◌≡◌, ℕ, Bool, true, false, List, Some, None, Option}
 use Rattle.sink.specs.Faults.{Denial}
 use Rattle.sink.specs.Calls.{Call, Start, Release, Hush, Tell, Set, Clear, Answer, ticket, done, denied}
 use Rattle.sink.specs.Meaning.{Meaning, Readiness, is_ready, refuses}
