@@ -4,10 +4,10 @@ use Rattle.std.proofs.Common.{sym, ap, ap₂, subst, le-leb}
 use Rattle.sink.specs.Faults.{Denial, layer_denial}
 use Rattle.sink.specs.Calls.{Call, Start, Release, Hush, Tell, Set, Clear, Answer, ticket, done, denied, startable, tellable, heard}
 use Rattle.sink.specs.Meaning.{Meaning, Means, Orderly}
-use Rattle.sink.specs.Layered.{passed, Refused, Handed}
+use Rattle.sink.specs.Layered.{passed, Refused}
 use Rattle.sink.specs.declared.fault.Cause.TheVariants.{OutOfRange, TellOutOfRange, NoSuchItem, ValueOutOfRange}
 use Rattle.sink.specs.declared.fault.LayerFault.{LayerFault}
-use Rattle.sink.specs.declared.fault.LayerFault.TheVariants.{Own, Below}
+use Rattle.sink.specs.declared.fault.LayerFault.TheVariants.{Own}
 use Rattle.sink.proofs.Bools.{clash}
 use Rattle.std.proofs.lemmas.Bool.{and_parts}
 use Rattle.sink.proofs.Handed.{Checked, handed, rekeyed, redepthed, retold, layer_orderly, quieter_same, quieter_then}
