@@ -3,8 +3,8 @@ use Rattle.std.specs.Prelude.{◌≡◌, ℕ, ◌-◌, Bool, true, false, cond, 
 use Rattle.std.proofs.Common.{sym, ap, ap₂, subst, ◌∙◌}
 use Rattle.std.proofs.Math.Bool.{and-false, or-false}
 use Rattle.sink.specs.Faults.{Denial, layer_denial}
-use Rattle.sink.specs.Calls.{Call, Start, Release, Hush, Tell, Set, Clear, Answer, ticket, done, denied, startable, tellable}
-use Rattle.sink.specs.Meaning.{Meaning, Means, Ended, Quieter, Idle}
+use Rattle.sink.specs.Calls.{Call, Start, Release, Hush, Tell, Set, Clear, Answer, startable, tellable}
+use Rattle.sink.specs.Meaning.{Meaning, Means, Idle}
 use Rattle.sink.specs.Layered.{Refused}
 use Rattle.sink.specs.declared.fault.Cause.TheVariants.{OutOfRange, NotOwed, TellOutOfRange, NoSuchItem}
 use Rattle.sink.specs.declared.fault.LayerFault.{LayerFault}
@@ -15,17 +15,17 @@ use Rattle.sink.proofs.Handed.{ready_steps, redepthed}
 use Rattle.sink.proofs.Refusals.{start_refused, release_refused, release_not_owed, hush_not_owed, tell_refused, item_refused}
 use Rattle.roll.specs.declared.note.Note.{Note}
 use Rattle.roll.specs.declared.note.Pick.TheVariants.{Kept, KeptOn}
-use Rattle.roll.specs.Notes.{lists, marked, left_out, picked, Distinct, full}
+use Rattle.roll.specs.Notes.{lists, left_out, picked, Distinct, full}
 use Rattle.roll.specs.Rolls.{listed}
 use Rattle.rolled.specs.declared.rolled.Rolled.{Rolled}
-use Rattle.rolled.specs.Rolled.{notes_of, keeps, rolled_meaning, RollSound, Onward, NotReady, says_yes}
+use Rattle.rolled.specs.Rolled.{notes_of, keeps, rolled_meaning, NotReady, says_yes}
 use Rattle.rolled.specs.Chains.{LetGo}
 use Rattle.rolled.proofs.Below.{Lawful}
 use Rattle.rolled.proofs.Notes.{without_two, lists_marked, distinct_marked, length_marked, keeps_marked, keeps_cleared}
-use Rattle.rolled.proofs.Onward.{Allowed, marked_owns, onward, new_sound, new_idle}
+use Rattle.rolled.proofs.Onward.{Allowed, marked_owns, onward, new_sound}
 use Rattle.rolled.proofs.Work.{has_room, unready, as_before, lifted, tell_after, clear_after, Worked, worked, worked_none}
 use Rattle.hold.specs.declared.hold.Hold.{Hold}
-use Rattle.hold.specs.Hold.{hold_meaning, HoldSound, Under, is_under_pedal, lifts, Lifted, On, KeptHere, Told, ClearedAll, HoldDoes}
+use Rattle.hold.specs.Hold.{hold_meaning, HoldSound, Under, is_under_pedal, lifts, On, KeptHere, Told, ClearedAll, HoldDoes}
 use Rattle.hold.specs.Pedals.{under_marked, under_listed, under_none, under_after, under_told}
 
 same_state : {S : Type 0} (s t : Hold S) → t.pedals ≡ s.pedals → t.rolled ≡ s.rolled → t ≡ s

@@ -1,14 +1,14 @@
 -- No note is kept under a raised pedal: what becomes of this when a roll or the pedals change.
-use Rattle.std.specs.Prelude.{◌≡◌, ℕ, zero, suc, Bool, true, false, cond, ◌&&◌, ◌||◌, List, [], ◌∷◌, ◌++◌, Some, None, Option, ◌==◌, nat_le, slice_index_or, slice_set, refl}
+use Rattle.std.specs.Prelude.{◌≡◌, ℕ, zero, suc, Bool, true, false, cond, ◌&&◌, ◌||◌, List, [], ◌∷◌, ◌++◌, Some, Option, ◌==◌, nat_le, slice_index_or, slice_set, refl}
 use Rattle.std.proofs.Common.{sym, ap, ap₂, subst, ◌∙◌, arith, eqb-true, eq-eqb, leb-false, le-leb}
 use Rattle.std.proofs.lemmas.List.{get_or-set_other}
 use Rattle.sink.specs.Calls.{Call, Start, Release, Hush, Tell, Set, Clear, Answer, ticket, done, denied}
 use Rattle.sink.proofs.Bools.{clash}
-use Rattle.std.proofs.lemmas.Bool.{and_parts, eqb-false}
+use Rattle.std.proofs.lemmas.Bool.{and_parts}
 use Rattle.roll.specs.declared.note.Note.{Note}
 use Rattle.roll.specs.declared.note.Pick.TheVariants.{Ticket, Kept, KeptOn}
 use Rattle.roll.specs.declared.roll.Roll.{Roll}
-use Rattle.roll.specs.Notes.{found, lists, marked, mark_kept, left_out, picked, added, full}
+use Rattle.roll.specs.Notes.{found, lists, marked, mark_kept, left_out, picked, full}
 use Rattle.roll.specs.Rolls.{listed}
 use Rattle.rolled.specs.Rolled.{new_note, RollAfter}
 use Rattle.rolled.specs.Chains.{tickets_of}
