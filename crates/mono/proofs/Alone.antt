@@ -1,10 +1,7 @@
 -- After an accepted start on a mono channel, no other owed ticket of the channel sounds.
-use mathlib.Core.Path.{◌≡◌, refl, sym, ap, subst, ◌∙◌}
-use mathlib.Core.Bool.{Bool, true, false, cond, ◌||◌, or-false}
-use mathlib.Core.List.{List, [], ◌∷◌, ◌++◌}
-use Prim.Native.Nat.{ℕ}
-use lib.Dec.{eqb}
-use lib.ListN.{get_or}
+use Rattle.std.specs.Prelude.{◌≡◌, ℕ, Bool, true, false, cond, ◌||◌, List, [], ◌∷◌, ◌++◌, ◌==◌, slice_index_or}
+use Rattle.std.proofs.Common.{refl, sym, ap, subst, ◌∙◌}
+use Rattle.std.proofs.Math.Bool.{or-false}
 use Rattle.sink.specs.Faults.{Denial, layer_denial}
 use Rattle.sink.specs.Calls.{Call, Start, Answer, ticket, done, denied, startable}
 use Rattle.sink.specs.Meaning.{Meaning}
@@ -16,7 +13,7 @@ use Rattle.sink.proofs.Bools.{refuted}
 use Rattle.roll.specs.declared.note.Note.{Note}
 use Rattle.roll.specs.declared.note.Pick.TheVariants.{On}
 use Rattle.roll.specs.declared.roll.Roll.{Roll}
-use Rattle.roll.specs.Notes.{picked, added, full}
+use Rattle.roll.specs.Notes.{picked, full}
 use Rattle.roll.specs.Rolls.{listed}
 use Rattle.rolled.specs.Rolled.{notes_of, keeps_none, new_note, NotReady, says_yes}
 use Rattle.rolled.specs.Chains.{Hushed, tickets_of, named}
@@ -37,18 +34,18 @@ not_denied : {F A : Type 0} (x : ℕ) (f : F) → ticket x ≡ denied f → A
 not_denied x f e = absurd (subst IsTicket e tt)
 
 -- a ticket of the notes after another one joined was of the notes before
-named_one : (b : Bool) (t u : ℕ) → eqb t u ≡ false → named (cond b (t ∷ []) []) u ≡ false
+named_one : (b : Bool) (t u : ℕ) → t == u ≡ false → named (cond b (t ∷ []) []) u ≡ false
 unfolding named
-named_one true t u e = or-false (eqb t u) ∙ e
+named_one true t u e = or-false (t == u) ∙ e
 named_one false t u e = refl
 
-older : (b : Bool) (p : Note → Bool) (ns : List Note) (n : Note) (u : ℕ) → eqb n.ticket u ≡ false → named (tickets_of p (cond b ns (ns ++ (n ∷ [])))) u ≡ true → named (tickets_of p ns) u ≡ true
+older : (b : Bool) (p : Note → Bool) (ns : List Note) (n : Note) (u : ℕ) → n.ticket == u ≡ false → named (tickets_of p (cond b ns (ns ++ (n ∷ [])))) u ≡ true → named (tickets_of p ns) u ≡ true
 older true p ns n u e h = h
 older false p ns n u e h = sym (or-false (named (tickets_of p ns) u)) ∙ ap (λ b. named (tickets_of p ns) u || b) (sym (named_one (p n) n.ticket u e)) ∙ sym (ap (λ l. named l u) (tickets_snoc p ns n) ∙ named_append (tickets_of p ns) (cond (p n) (n.ticket ∷ []) []) u) ∙ h
 
-module _ {S F : Type 0} {sees : F → Denial} {meaning : S → Meaning} {sound : S → Type 0} {does : S → Call → Answer F → S → Type 0} (law : Lawful sees meaning sound does) (s : Mono S) (h : MonoSound meaning sound s) (c : ℕ) (mono : get_or s.modes.on c false ≡ true) where
+module _ {S F : Type 0} {sees : F → Denial} {meaning : S → Meaning} {sound : S → Type 0} {does : S → Call → Answer F → S → Type 0} (law : Lawful sees meaning sound does) (s : Mono S) (h : MonoSound meaning sound s) (c : ℕ) (mono : slice_index_or s.modes.on c false ≡ true) where
   abbrev Silent : ℕ → Mono S → Type 0
-  Silent x t = (u : ℕ) → named (tickets_of (picked (On c)) (notes_of t.rolled)) u ≡ true → eqb x u ≡ false → (meaning t.rolled.below).sounding u ≡ false
+  Silent x t = (u : ℕ) → named (tickets_of (picked (On c)) (notes_of t.rolled)) u ≡ true → x == u ≡ false → (meaning t.rolled.below).sounding u ≡ false
 
   started : (p k v x : ℕ) (t : Mono S) → startable c k v ≡ true → says_yes (mono_meaning meaning s).ready ≡ true → Started meaning does p c k v s (ticket x) t → Silent x t
   started p k v x t ok free d u e other =

@@ -1,5 +1,5 @@
 -- A mono has the meaning of a sink, if the sink below has it.
-use Rattle.std.specs.Prelude.{◌≡◌, refl, Bool, true, false, cond, List, ℕ, ◌-◌, eqb, leb, ℤ, get_or}
+use Rattle.std.specs.Prelude.{◌≡◌, refl, Bool, true, false, cond, List, ℕ, ◌-◌, ◌==◌, nat_le, ℤ, slice_index_or}
 use Rattle.std.proofs.Common.{sym, subst}
 use Rattle.sink.specs.Faults.{Denial, layer_denial}
 use Rattle.sink.specs.Calls.{Call, Start, Release, Hush, Tell, Set, Clear, Answer, startable, tellable}
@@ -55,7 +55,7 @@ module _ {S F : Type 0} {sees : F → Denial} {meaning : S → Meaning} {sound :
 
     started : (p c k v : ℕ) → startable c k v ≡ true → says_yes (mono_meaning meaning s).ready ≡ true → Started meaning does p c k v s a t → Stands (Start p c k v)
     started p c k v ok free d =
-        let w = way_made (get_or s.modes.on c false) p c d.between d.made_way in
+        let w = way_made (slice_index_or s.modes.on c false) p c d.between d.made_way in
         let room = subst (λ (x : Roll). full (listed x) ≡ false) (sym w.2) (has_room (full ns) (meaning s.rolled.below).ready free) in
         let o = onward law none_owns d.between t.rolled w.0 (Start p c k v) a (ok, room) d.started in
         (o.0, start_after D (rolled_meaning keeps_none meaning) (λ (x : Mono S). x.rolled) s t d.between p c k v a ok (yes_ready (mono_meaning meaning s).ready free) w.1 o.1)
@@ -71,7 +71,7 @@ module _ {S F : Type 0} {sees : F → Denial} {meaning : S → Meaning} {sound :
     start_stands p c k v true false e f d = (unchanged d.refused, unready D (mono_meaning meaning) p c k v s a t e d)
     start_stands p c k v false y e f d = (unchanged d, start_refused sees (mono_meaning meaning) s a t p c k v e d)
 
-    release_stands : (p u v : ℕ) (x : Bool) → leb v 127 ≡ x → cond x (Passed does (Release p u v) s a t) (Refused (Own OutOfRange) s a t) → Stands (Release p u v)
+    release_stands : (p u v : ℕ) (x : Bool) → nat_le v 127 ≡ x → cond x (Passed does (Release p u v) s a t) (Refused (Own OutOfRange) s a t) → Stands (Release p u v)
     release_stands p u v true e d = on (Release p u v) (Release p u v) (e, refl) (λ m. m) d
     release_stands p u v false e d = (unchanged d, release_refused sees (mono_meaning meaning) s a t p u v e d)
 
@@ -85,10 +85,10 @@ module _ {S F : Type 0} {sees : F → Denial} {meaning : S → Meaning} {sound :
 
     stands : (c : Call) → MonoDoes sees meaning does s c a t → Stands c
     stands (Start p c k v) d = start_stands p c k v (startable c k v) (says_yes (mono_meaning meaning s).ready) refl refl d
-    stands (Release p u v) d = release_stands p u v (leb v 127) refl d
+    stands (Release p u v) d = release_stands p u v (nat_le v 127) refl d
     stands (Hush p u) d = on (Hush p u) (Hush p u) refl (λ m. m) d
     stands (Tell p c n v) d = tell_stands p c n v (tellable c n v) refl d
-    stands (Set p e i v) d = set_stands p e i v (eqb e 0) d
+    stands (Set p e i v) d = set_stands p e i v (e == 0) d
     stands (Clear p) d = on (Clear p) (Clear p) (λ u. refl) (λ m. m) d
 
 pub mono_stands : {S F : Type 0} {sees : F → Denial} {meaning : S → Meaning} {sound : S → Type 0} {does : S → Call → Answer F → S → Type 0} → Lawful sees meaning sound does → (s : Mono S) (a : Answer (LayerFault F)) (t : Mono S) → MonoSound meaning sound s → (c : Call) → MonoDoes sees meaning does s c a t → MonoSound meaning sound t × Means (layer_denial sees) (mono_meaning meaning) s c a t

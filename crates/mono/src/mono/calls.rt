@@ -1,4 +1,4 @@
-ghost use Rattle.std.specs.Prelude.{◌≡◌, false, [], get_or, replicate};
+ghost use Rattle.std.specs.Prelude.{◌≡◌, false, [], slice_index_or, replicate};
 ghost use Rattle.sink.specs.Meaning.{Idle};
 ghost use Rattle.rolled.specs.Rolled.{notes_of};
 ghost use Rattle.mono.specs.Mono.{mono_meaning, MonoSound, MonoDoes, OneSounds};
@@ -34,8 +34,8 @@ impl<S: Sink> Mono<S> {
 
     // Whether a channel is mono. After an accepted start there no other owed ticket of the channel sounds.
     pub fn is_mono(&self, channel: u8) -> bool
-        ensures mono { result ≡ get_or self.now.modes.on channel false }
-        ensures alone { MonoSound S.Sink.meaning S.Sink.sound self.now → OneSounds Fault-as-Refusal.denial S.Sink.meaning S.Sink.does channel result self.now }
+        ensures mono { result ≡ slice_index_or self.now.modes.on channel false }
+        ensures alone { MonoSound S.Sink.meaning S.Sink.sound self.now → OneSounds S.Fault.Refusal.denial S.Sink.meaning S.Sink.does channel result self.now }
     {
         self.mode(channel)
     }

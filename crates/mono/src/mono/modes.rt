@@ -1,4 +1,4 @@
-ghost use Rattle.std.specs.Prelude.{◌≡◌, false, get_or, replicate};
+ghost use Rattle.std.specs.Prelude.{◌≡◌, false, slice_index_or, replicate};
 ghost use Rattle.sink.specs.Calls.{started};
 ghost use Rattle.mono.specs.Mono.{moded, MadeWay, Started};
 
@@ -34,7 +34,7 @@ impl<S: Sink> Mono<S> {
 
     // Whether a channel is mono.
     pub(crate) fn mode(&self, channel: u8) -> bool
-        ensures { result ≡ get_or self.now.modes.on channel false }
+        ensures { result ≡ slice_index_or self.now.modes.on channel false }
     {
         self.modes.is_on(channel)
     }

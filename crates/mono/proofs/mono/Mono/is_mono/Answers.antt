@@ -1,5 +1,4 @@
-use mathlib.Core.Path.{sym, ◌∙◌}
-use Rattle.rolled.proofs.Below.{Lawful}
+use Rattle.std.proofs.Common.{sym, ◌∙◌}
 use Rattle.mono.proofs.Alone.{alone}
 use Rattle.mono.proofs.mono.Mono.is_mono.Goals as goal
 

@@ -1,5 +1,4 @@
-use mathlib.Core.Path.{◌≡◌, sym, ap, subst, ◌∙◌}
-use mathlib.Core.List.{[]}
+use Rattle.std.proofs.Common.{◌≡◌, [], sym, ap, subst, ◌∙◌}
 use Rattle.sink.specs.Meaning.{Idle}
 use Rattle.rolled.specs.Rolled.{notes_of}
 use Rattle.rolled.proofs.Onward.{none_owns, new_sound, new_idle}
