@@ -1,11 +1,10 @@
 -- The foremost of some notes, one note more at a time.
-use Rattle.std.proofs.Common.{◌≡◌, ℕ, ◌+◌, ◌<◌, Bool, true, false, cond, not, ◌&&◌, ◌||◌, List, [], ◌∷◌, ◌++◌, length, get_or, take, Some, None, Option, sym, refl, ap, ◌∙◌, subst, ap₂, append-nil, arith}
+use Rattle.std.proofs.Common.{◌≡◌, ℕ, ◌+◌, ◌<◌, Bool, true, false, cond, not, ◌&&◌, ◌||◌, List, [], ◌∷◌, ◌++◌, length, get_or, take, Some, None, Option, sym, refl, ap, ◌∙◌, subst, ap₂, append-nil}
 use mathlib.Core.Bool.{and-true}
 use Rattle.std.proofs.lemmas.List.{length-append}
 use Rattle.sink.proofs.Bools.{clash}
 use Rattle.std.proofs.lemmas.Bool.{and_parts}
 use Rattle.roll.specs.declared.note.Note.{Note}
-use Rattle.roll.specs.Notes.{left_out}
 use Rattle.roll.proofs.Table.{left_more}
 use Rattle.quota.specs.Orders.{leads, NoneLeads, Foremost, Chosen, better, sounding_among}
 

@@ -1,9 +1,8 @@
 -- How many notes sound: what becomes of the number when notes fall silent, join or leave.
-use Rattle.std.specs.Prelude.{◌≡◌, ℕ, suc, ◌+◌, ◌<◌, ◌≤◌, Bool, true, false, cond, not, ◌&&◌, ◌||◌, List, [], ◌∷◌, ◌++◌, length, ◌==◌, refl}
+use Rattle.std.specs.Prelude.{◌≡◌, ℕ, ◌+◌, ◌<◌, ◌≤◌, Bool, true, false, cond, not, ◌&&◌, ◌||◌, List, [], ◌∷◌, ◌++◌, length, ◌==◌, refl}
 use Rattle.std.proofs.Common.{sym, ap, subst, ◌∙◌, arith, eqb-true}
 use Rattle.std.proofs.Math.Bool.{or-true}
 use Rattle.sink.proofs.Bools.{clash, self_eq}
-use Rattle.std.proofs.lemmas.Bool.{or_parts}
 use Rattle.roll.specs.declared.note.Note.{Note}
 use Rattle.roll.specs.Notes.{lists, left_out, picked}
 use Rattle.roll.specs.declared.note.Pick.TheVariants.{Ticket}

@@ -1,7 +1,7 @@
 -- How many notes of a roll sound, after hushes and after a call handed on.
-use Rattle.std.specs.Prelude.{◌≡◌, ℕ, zero, suc, ◌+◌, ◌-◌, ◌<◌, ◌≤◌, Bool, true, false, not, ◌&&◌, ◌||◌, List, [], ◌∷◌, length, Some, None, Option, ◌==◌, refl}
-use Rattle.std.proofs.Common.{sym, ap, ap₂, subst, ◌∙◌, arith, eqb-true}
-use Rattle.std.proofs.Math.Bool.{and-false, and-true}
+use Rattle.std.specs.Prelude.{◌≡◌, ℕ, zero, suc, ◌+◌, ◌-◌, ◌<◌, ◌≤◌, Bool, true, false, not, ◌&&◌, List, length, Some, None, Option, ◌==◌, refl}
+use Rattle.std.proofs.Common.{sym, ap, subst, ◌∙◌, arith, eqb-true}
+use Rattle.std.proofs.Math.Bool.{and-false}
 use Rattle.sink.specs.Faults.{Denial}
 use Rattle.sink.specs.Calls.{Call, Start, Release, Hush, Tell, Set, Clear, Answer, ticket, done, denied}
 use Rattle.sink.specs.Meaning.{Meaning, Means, Ended}
@@ -11,7 +11,7 @@ use Rattle.std.proofs.lemmas.Bool.{and_parts}
 use Rattle.roll.specs.declared.note.Note.{Note}
 use Rattle.roll.specs.declared.note.Pick.TheVariants.{Ticket}
 use Rattle.roll.specs.declared.roll.Roll.{Roll}
-use Rattle.roll.specs.Notes.{lists, left_out, picked, full}
+use Rattle.roll.specs.Notes.{lists, picked, full}
 use Rattle.roll.specs.Rolls.{listed}
 use Rattle.rolled.specs.declared.rolled.Rolled.{Rolled}
 use Rattle.rolled.specs.Rolled.{notes_of, keeps_none, rolled_meaning, RollSound, new_note, RollAfter}
@@ -19,8 +19,8 @@ use Rattle.rolled.proofs.Below.{Lawful}
 use Rattle.rolled.proofs.Silent.{Silenced, silenced_none, silenced_then, hush_call, hush_owed}
 use Rattle.rolled.proofs.Work.{hush_sound, hush_silenced}
 use Rattle.quota.specs.Orders.{Foremost, Chosen, sounding_among}
-use Rattle.quota.specs.Hushing.{HushIt, HushNext, HushTimes, enough, another, sounding_count, HushedDown}
-use Rattle.quota.specs.Quota.{AtMost, EachOnce}
+use Rattle.quota.specs.Hushing.{HushIt, HushTimes, enough, another, sounding_count, HushedDown}
+use Rattle.quota.specs.Quota.{AtMost}
 use Rattle.quota.specs.Counts.{fewer, less, leave, join, among, lists_mid, sounds_among, no_more}
 
 module _ {S F : Type 0} {sees : F → Denial} {meaning : S → Meaning} {sound : S → Type 0} {does : S → Call → Answer F → S → Type 0} (law : Lawful sees meaning sound does) where

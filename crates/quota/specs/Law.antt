@@ -1,6 +1,6 @@
 -- A quota has the meaning of a sink, if the sink below has it.
-use Rattle.std.specs.Prelude.{◌≡◌, ℕ, ◌+◌, ◌-◌, ◌≤◌, Bool, true, false, cond, List, [], length, ℤ, ◌==◌, nat_le, refl}
-use Rattle.std.proofs.Common.{sym, ap, subst, ◌∙◌, arith}
+use Rattle.std.specs.Prelude.{◌≡◌, ℕ, ◌+◌, ◌-◌, ◌≤◌, Bool, true, false, cond, List, [], ℤ, ◌==◌, nat_le, refl}
+use Rattle.std.proofs.Common.{sym, ap, subst, arith}
 use Rattle.sink.specs.Faults.{Denial, layer_denial}
 use Rattle.sink.specs.Calls.{Call, Start, Release, Hush, Tell, Set, Clear, Answer, startable, tellable, within}
 use Rattle.sink.specs.Meaning.{Meaning, Means, Idle}

@@ -1,8 +1,8 @@
-use Rattle.std.proofs.Common.{◌≡◌, ◌+◌, length, take, Some, sym, refl, ap, subst, arith}
+use Rattle.std.proofs.Common.{◌+◌, take, Some, sym, refl, subst, arith}
 use Rattle.std.proofs.lemmas.List.{take_all}
 use Rattle.roll.specs.Notes.{blank, left_out}
 use Rattle.roll.specs.Rolls.{listed}
-use Rattle.quota.specs.Orders.{Chosen, better, sounding_among}
+use Rattle.quota.specs.Orders.{Chosen, sounding_among}
 use Rattle.quota.proofs.Choice.{chosen_more, chosen_skip}
 use Rattle.quota.proofs.quota.hushing.foremost.Goals as goal
 use Rattle.quota.proofs.quota.hushing.foremost.Goals.{then-sounds, else-sounds}
