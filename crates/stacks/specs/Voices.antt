@@ -1,5 +1,5 @@
 -- The stack of a voice log: transposer over hold over mono over quota, the oldest note hushed first, over the log.
-use Rattle.std.specs.Prelude.{◌≡◌, ℕ, min, false, List, [], length, replicate, pos, None, vec_items}
+use Rattle.std.specs.Prelude.{◌≡◌, min, false, List, [], length, replicate, pos, None, vec_items}
 use Rattle.sink.specs.declared.fault.Cause.{Cause}
 use Rattle.sink.specs.declared.fault.LayerFault.{LayerFault}
 use Rattle.rolled.specs.Rolled.{notes_of}
@@ -36,7 +36,7 @@ pub record NewVoices (items : List Line) (s : VoiceStack) : Type 0 where
   pub single : notes_of s.below.rolled.below.rolled ≡ []
   pub limited : notes_of s.below.rolled.below.rolled.below.rolled ≡ []
   pub logged : notes (log_of s) ≡ []
-  pub silent : (log_of s).sounding.voices ≡ replicate 128 None
+  pub silent : (log_of s).sounding.serials ≡ replicate 128 None
   pub written : (log_of s).written ≡ 0
   pub lines : vec_items (log_of s).lines ≡ items
   pub room : (log_of s).room ≡ min (length items) 1000000000
