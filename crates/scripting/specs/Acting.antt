@@ -5,6 +5,8 @@ use Rattle.sink.specs.Calls as calls
 use Rattle.sink.specs.Ends.{End}
 use Rattle.sink.specs.Faults.{Denial}
 use Rattle.sink.specs.Meaning.{Meaning}
+use Rattle.sink.specs.declared.fault.refusal.Refusal
+use Rattle.sink.specs.declared.sink.Sink
 use Rattle.run.specs.declared.counts.TooManyBytes.{TooManyBytes as TooMany}
 use Rattle.run.specs.declared.runs.Run.{Run}
 use Rattle.run.specs.Counting.{tally_of}
@@ -23,18 +25,18 @@ set_answer (calls.ticket t) = Done
 set_answer done = Done
 set_answer (denied f) = Denied f
 
-module _ {S F : Type 0} (sees : F → Denial) (meaning : S → Meaning) (sound : S → Type 0) (does : S → Call → calls.Answer F → S → Type 0) (ends : S → List End) where
-  pub record FeedActs (bytes : List ℕ) (r : Run S F) (a : Answer F) (r' : Run S F) : Type 0 where
+module _ {S F : Type 0} {gs : Sink.Ghosts S F} {gf : Refusal.Ghosts F} (sees : F → Denial) (meaning : S → Meaning) (sound : S → Type 0) (does : S → Call → calls.Answer F → S → Type 0) (ends : S → List End) where
+  pub record FeedActs (bytes : List ℕ) (r : Run S F gs gf) (a : Answer F) (r' : Run S F gs gf) : Type 0 where
     pub taken : Result (Unit {0}) TooMany
     pub feeds : Feeds sees meaning sound does ends bytes r taken r'
     pub answer : a ≡ fed_answer taken
 
-  pub record SetActs (depth item : ℕ) (value : ℤ) (r : Run S F) (a : Answer F) (r' : Run S F) : Type 0 where
+  pub record SetActs (depth item : ℕ) (value : ℤ) (r : Run S F gs gf) (a : Answer F) (r' : Run S F gs gf) : Type 0 where
     pub taken : calls.Answer F
     pub sets : Sets sees meaning sound does ends depth item value r taken r'
     pub answer : a ≡ set_answer taken
 
   -- the counts, with nothing changed
-  pub record TallyActs (r : Run S F) (a : Answer F) (r' : Run S F) : Type 0 where
+  pub record TallyActs (r : Run S F gs gf) (a : Answer F) (r' : Run S F gs gf) : Type 0 where
     pub same : r' ≡ r
     pub answer : a ≡ Counted (tally_of r.count r.player.counts)

@@ -1,8 +1,10 @@
 -- What is printed for a line, and what it does to the run.
 use Rattle.std.specs.Prelude.{◌≡◌, ℕ, List, [], ◌∷◌, ◌++◌, ℤ, codes, decimal}
+use Rattle.sink.specs.declared.fault.refusal.Refusal
+use Rattle.sink.specs.declared.sink.Sink
 use Rattle.run.specs.Counting.{tally_of}
 use Rattle.script.specs.Meanings.{Meant, nothing, feeds, sets, tallies, closes, unreadable}
-use Rattle.stacks.specs.Consoles.{ConsoleFault, console_kind}
+use Rattle.stacks.specs.Consoles.{ConsoleStack, ConsoleFault, console_kind}
 use Rattle.scripting.specs.Answers.{answer_text}
 use Rattle.scripting.specs.Consoles.{ConsoleRun, FeedsIt, SetsIt}
 use Rattle.scripting.specs.declared.answers.Answer.{Answer}
@@ -15,31 +17,32 @@ console_text a = answer_text console_kind.sees a
 abbrev pub with_answer : List ℕ → Answer ConsoleFault → List ℕ
 with_answer text a = text ++ (console_text a ++ (10 ∷ []))
 
--- nothing is done, and this is printed
-pub record Says (words : List ℕ) (r : ConsoleRun) (text : List ℕ) (r' : ConsoleRun) (text' : List ℕ) : Type 0 where
-  pub same : r' ≡ r
-  pub printed : text' ≡ text ++ words
+module _ {gs : Sink.Ghosts ConsoleStack ConsoleFault} {gf : Refusal.Ghosts ConsoleFault} where
+  -- nothing is done, and this is printed
+  pub record Says (words : List ℕ) (r : ConsoleRun gs gf) (text : List ℕ) (r' : ConsoleRun gs gf) (text' : List ℕ) : Type 0 where
+    pub same : r' ≡ r
+    pub printed : text' ≡ text ++ words
 
-pub record FeedsAndSays (bytes : List ℕ) (r : ConsoleRun) (text : List ℕ) (r' : ConsoleRun) (text' : List ℕ) : Type 0 where
-  pub answer : Answer ConsoleFault
-  pub feeds : FeedsIt bytes r answer r'
-  pub printed : text' ≡ with_answer text answer
+  pub record FeedsAndSays (bytes : List ℕ) (r : ConsoleRun gs gf) (text : List ℕ) (r' : ConsoleRun gs gf) (text' : List ℕ) : Type 0 where
+    pub answer : Answer ConsoleFault
+    pub feeds : FeedsIt bytes r answer r'
+    pub printed : text' ≡ with_answer text answer
 
-pub record SetsAndSays (depth item : ℕ) (value : ℤ) (r : ConsoleRun) (text : List ℕ) (r' : ConsoleRun) (text' : List ℕ) : Type 0 where
-  pub answer : Answer ConsoleFault
-  pub sets : SetsIt depth item value r answer r'
-  pub printed : text' ≡ with_answer text answer
+  pub record SetsAndSays (depth item : ℕ) (value : ℤ) (r : ConsoleRun gs gf) (text : List ℕ) (r' : ConsoleRun gs gf) (text' : List ℕ) : Type 0 where
+    pub answer : Answer ConsoleFault
+    pub sets : SetsIt depth item value r answer r'
+    pub printed : text' ≡ with_answer text answer
 
-pub record CountsAndSays (r : ConsoleRun) (text : List ℕ) (r' : ConsoleRun) (text' : List ℕ) : Type 0 where
-  pub answer : Answer ConsoleFault
-  pub counted : answer ≡ Counted (tally_of r.count r.player.counts)
-  pub same : r' ≡ r
-  pub printed : text' ≡ with_answer text answer
+  pub record CountsAndSays (r : ConsoleRun gs gf) (text : List ℕ) (r' : ConsoleRun gs gf) (text' : List ℕ) : Type 0 where
+    pub answer : Answer ConsoleFault
+    pub counted : answer ≡ Counted (tally_of r.count r.player.counts)
+    pub same : r' ≡ r
+    pub printed : text' ≡ with_answer text answer
 
-abbrev pub Replies : ℕ → Meant → ConsoleRun → List ℕ → ConsoleRun → List ℕ → Type 0
-Replies n nothing r text r' text' = Says [] r text r' text'
-Replies n closes r text r' text' = Says [] r text r' text'
-Replies n unreadable r text r' text' = Says (codes "error line " ++ (decimal n ++ codes ": cannot be read\n")) r text r' text'
-Replies n (feeds bytes) r text r' text' = FeedsAndSays bytes r text r' text'
-Replies n (sets depth item value) r text r' text' = SetsAndSays depth item value r text r' text'
-Replies n tallies r text r' text' = CountsAndSays r text r' text'
+  abbrev pub Replies : ℕ → Meant → ConsoleRun gs gf → List ℕ → ConsoleRun gs gf → List ℕ → Type 0
+  Replies n nothing r text r' text' = Says [] r text r' text'
+  Replies n closes r text r' text' = Says [] r text r' text'
+  Replies n unreadable r text r' text' = Says (codes "error line " ++ (decimal n ++ codes ": cannot be read\n")) r text r' text'
+  Replies n (feeds bytes) r text r' text' = FeedsAndSays bytes r text r' text'
+  Replies n (sets depth item value) r text r' text' = SetsAndSays depth item value r text r' text'
+  Replies n tallies r text r' text' = CountsAndSays r text r' text'

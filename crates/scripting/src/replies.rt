@@ -14,7 +14,8 @@ use std::fmt;
 fn write_answer(text: &mut String, answer: Answer<ConsoleFault>) -> Result<(), fmt::Error>
     ensures { OnOk result (string_bytes text.new ≡ string_bytes text.old ++ (console_text answer ++ (10 ∷ []))) }
 {
-    writeln!(text, "{answer}")
+    writeln!(text, "{answer}")?;
+    Ok(())
 }
 
 fn counted(console: &Console) -> Answer<ConsoleFault>
@@ -34,7 +35,10 @@ pub fn reply(
 {
     match line {
         Line::Empty | Line::Act(Act::Close) => Ok(()),
-        Line::Unreadable => writeln!(text, "error line {number}: cannot be read"),
+        Line::Unreadable => {
+            writeln!(text, "error line {number}: cannot be read")?;
+            Ok(())
+        }
         Line::Act(Act::Feed(bytes)) => {
             let answer = console.feed(bytes);
             write_answer(text, answer)

@@ -8,7 +8,7 @@ use Rattle.scripting.proofs.console.Console.set.Goals as goal
 pub invariant_of-self : goal.invariant_of-self
 invariant_of-self c =
     let sets = subst (λ v. SetsRun c.args.depth c.args.item v c.args.self.now.run (finished c.set.result) c.set.new.self) (to_z-of_z w32 c.args.value c.ranges.value) c.set.ensures in
-    (set_past c.args.self.now.run c.set.new.self c.args.depth c.args.item c.args.value (finished c.set.result) sets c.args.self.now.played, tt)
+    record { played = set_past c.args.self.now.run c.set.new.self c.args.depth c.args.item c.args.value (finished c.set.result) sets c.args.self.now.played }
 
 pub returns-in-Ok : goal.returns-in-Ok
 returns-in-Ok c = record {
