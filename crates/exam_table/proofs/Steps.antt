@@ -1,5 +1,5 @@
 -- Why the pipe of key 60 speaks until the pedal comes up, and no longer.
-use Rattle.std.proofs.Common.{◌≡◌, ℕ, ◌<◌, ◌≤◌, Bool, true, false, cond, not, ◌&&◌, ◌||◌, eqb, List, [], ◌∷◌, ◌++◌, set, replicate, pos, ◌+ℤ◌, is_some, Some, None, Ok, Err, Result, sym, refl, ap, ◌∙◌, subst, ap₂, arith, lit≤}
+use Rattle.std.proofs.Common.{◌≡◌, ℕ, ◌<◌, Bool, true, false, cond, not, ◌&&◌, ◌||◌, eqb, List, [], ◌∷◌, ◌++◌, set, replicate, pos, ◌+ℤ◌, is_some, Some, None, Ok, Err, Result, sym, refl, ap, ◌∙◌, subst, ap₂, arith, lit≤}
 use mathlib.Core.Bool.{or-false}
 use Rattle.sink.specs.Faults.{here, layer_denial}
 use Rattle.sink.specs.Calls.{Start, Release, Tell, Answer, ticket, done, denied}
@@ -23,8 +23,7 @@ use Rattle.transposer.specs.Folded.{one_key}
 use Rattle.hold.specs.declared.hold.Hold.{Hold}
 use Rattle.hold.specs.Hold.{is_under_pedal, note_under, On, KeptHere}
 use Rattle.voice_log.specs.declared.log.VoiceLog.{VoiceLog}
-use Rattle.voice_log.specs.Log.{notes, serial_of, log_check, log_meaning, LogDoes, LogSound, Begins}
-use Rattle.ends.specs.Ending.{IfReady}
+use Rattle.voice_log.specs.Log.{notes, serial_of, log_check, log_meaning, LogDoes, LogSound, Begins, starts}
 use Rattle.voice_log.specs.Law.{log_law}
 use Rattle.exam_table.specs.Stack.{ExamStack, log_of, held_meaning, HeldDoes, StackDoes}
 use Rattle.exam_table.specs.Answer.{Rests, Rows, Speaks60, NoneSpeaks, AnswersStand}
@@ -33,8 +32,8 @@ pub log_lawful : Lawful here log_meaning LogSound LogDoes
 log_lawful = record {
   orderly = λ s h. record {
     apart = λ u e. refl;
-    sounding = λ u e. ap (λ b. b || false) (h.order.within u e);
-    small = λ u e. let v : u < 128 = h.order.small u (sym (or-false (lists (notes s) u)) ∙ e) in omega arith;
+    sounding = λ u e. ap (λ b. b || false) (h.within u e);
+    small = λ u e. let v : u < 128 = h.small u (sym (or-false (lists (notes s) u)) ∙ e) in omega arith;
   };
   stays = λ s c a t h d. (log_law s a t h c d).1;
   means = λ s c a t h d. (log_law s a t h c d).0;
@@ -81,7 +80,7 @@ pub record Held (l : VoiceLog) (down : List Bool) (n : Note) (h : Hold VoiceLog)
 -- ---- the key goes down
 
 module _ (t p : ℕ) where
-  begun : (x : Result (Unit {0}) Cause) (l l' : VoiceLog) → IfReady x (Begins p 0 60 100) l (ticket t) l' → Begins p 0 60 100 l (ticket t) l'
+  begun : (x : Result (Unit {0}) Cause) (l l' : VoiceLog) → starts x p 0 60 100 l (ticket t) l' → Begins p 0 60 100 l (ticket t) l'
   begun (Ok _) l l' d = d
   begun (Err f) l l' d = no_ticket d.answer
 
@@ -162,7 +161,7 @@ silent_after : (t p : ℕ) (l l' : VoiceLog) → Sounds t l → Releases LogDoes
 unfolding lists named
 silent_after t p l l' w d u =
     let g = gone log_lawful d w.sound in
-    refuted _ _ (g.0.order.within u) (g.1.owed u ∙ ap (λ ns. lists ns u && not (named (t ∷ []) u)) w.logged ∙ never_both (eqb t u))
+    refuted _ _ (g.0.within u) (g.1.owed u ∙ ap (λ ns. lists ns u && not (named (t ∷ []) u)) w.logged ∙ never_both (eqb t u))
 
 speaks : (t : ℕ) (l : VoiceLog) (s : ExamStack) → Sounds t l → log_of s ≡ l → Speaks60 t s
 unfolding found

@@ -1,6 +1,8 @@
 -- What the run of the rows leaves in the log.
-use Rattle.std.proofs.Common.{◌≡◌, ℕ, ◌+◌, ◌-◌, ◌<◌, ◌≤◌, Bool, true, false, cond, ltb, List, [], ◌∷◌, length, get_or, take, set, Some, None, Ok, Err, vec_items, refl, ap, ◌∙◌, subst, ap₂, subst₂, arith, get_or-set_same, le-ltb}
+use Rattle.std.proofs.Common.{◌≡◌, ℕ, ◌+◌, ◌-◌, ◌<◌, ◌≤◌, Bool, false, cond, ltb, List, [], ◌∷◌, length, get_or, take, set, Some, None, Ok, Err, vec_items, refl, ap, ◌∙◌, subst, ap₂, subst₂, arith, get_or-set_same, le-ltb}
 use Rattle.sink.specs.Faults.{here, layer_denial}
+use Rattle.sink.specs.declared.fault.refusal.Refusal
+use Rattle.sink.specs.declared.sink.Sink
 use Rattle.sink.specs.Calls.{Call, Start, Release, Clear, Answer, ticket, done, denied}
 use Rattle.sink.specs.Meaning.{Readiness, is_ready, whether, Means}
 use Rattle.sink.specs.Layered.{ready_over}
@@ -18,10 +20,9 @@ use Rattle.voice_log.specs.declared.line.Kind.TheVariants.{Begun, Ended}
 use Rattle.voice_log.specs.declared.line.Line.{Line}
 use Rattle.voice_log.specs.declared.log.VoiceLog.{VoiceLog}
 use Rattle.voice_log.specs.Lines.{begun_count}
-use Rattle.roll.specs.Voices.{tally}
-use Rattle.voice_log.specs.Log.{notes, serial_of, written_lines, log_meaning, LogDoes, LogSound, Ends, StopLine, Writes, begun_line}
-use Rattle.ends.specs.Ending.{IfOwed}
-use Rattle.roll.proofs.Tallies.{with_none}
+use Rattle.voice_log.specs.Serials.{tally}
+use Rattle.voice_log.specs.Log.{notes, serial_of, written_lines, log_meaning, LogDoes, LogSound, Ends, releases, StopLine, Writes, begun_line}
+use Rattle.voice_log.specs.Tallies.{tally_none}
 use Rattle.exam_table.specs.Rows.{Plays}
 use Rattle.exam_table.specs.Stack.{ExamStack, ExamFault, New, log_of, held_meaning, HeldDoes, stack_sees, stack_meaning, StackSound, StackDoes, stack_ends}
 use Rattle.exam_table.specs.Sitting.{the_log}
@@ -42,7 +43,7 @@ readiness roll tickets space = ready_over false (ready_over roll (whether here (
 module _ (lines : List Line) (s : ExamStack) (new : New lines s) (room : 2 ≤ length lines) where
   space : 2 ≤ (log_of s).room - (log_of s).written - (log_of s).sounding.count
   space =
-      let none = (log_of s).sounding.counted ∙ ap tally new.silent ∙ with_none (λ v. true) 128 in
+      let none = (log_of s).sounding.counted ∙ ap tally new.silent ∙ tally_none 128 in
       omega (arith, new.room, new.written, none)
 
   ready : (stack_meaning s).ready ≡ is_ready
@@ -60,7 +61,7 @@ module _ (lines : List Line) (s : ExamStack) (new : New lines s) (room : 2 ≤ l
 
 -- ---- the run goes through the rows
 
-module _ (lines : List Line) (s left : ExamStack) (new : New lines s) (rests : Rests s) (room : 2 ≤ length lines) (p : Plays stack_sees stack_meaning StackSound StackDoes stack_ends s left) where
+module _ (gs : Sink.Ghosts ExamStack ExamFault) (gf : Refusal.Ghosts ExamFault) (lines : List Line) (s left : ExamStack) (new : New lines s) (rests : Rests s) (room : 2 ≤ length lines) (p : Plays gs gf stack_sees stack_meaning StackSound StackDoes stack_ends s left) where
   calls : (t : ℕ) × CalledRows stack_sees stack_meaning StackSound StackDoes stack_ends t s p.r₁.player.stack p.r₂.player.stack p.r₃.player.stack p.r₄.player.stack p.r₅.player.stack left
   calls = called stack_sees stack_meaning StackSound StackDoes stack_ends s left p (starts lines s new room rests.sound)
 
@@ -69,10 +70,10 @@ module _ (lines : List Line) (s left : ExamStack) (new : New lines s) (rests : R
       let c = calls.1 in
       record { p₁ = 2; p₂ = 3; p₃ = 5; p₄ = 8; p₅ = 11; a₂ = c.a₂; a₃ = c.a₃; a₄ = c.a₄; a₅ = c.a₅; key_down = c.key_down; transpose = c.transpose; pedal_down = c.pedal_down; key_up = c.key_up; pedal_up = c.pedal_up }
 
-pub runs_stand : RunsStand
-runs_stand lines s left new rests room p =
-    let w = rows_stand (calls lines s left new rests room p).0 s p.r₁.player.stack p.r₂.player.stack p.r₃.player.stack p.r₄.player.stack p.r₅.player.stack rests (rows lines s left new rests room p) in
-    ((calls lines s left new rests room p).0, w.0, w.1, w.2, w.3, w.4)
+pub runs_stand : (gs : Sink.Ghosts ExamStack ExamFault) (gf : Refusal.Ghosts ExamFault) → RunsStand gs gf
+runs_stand gs gf lines s left new rests room p =
+    let w = rows_stand (calls gs gf lines s left new rests room p).0 s p.r₁.player.stack p.r₂.player.stack p.r₃.player.stack p.r₄.player.stack p.r₅.player.stack rests (rows gs gf lines s left new rests room p) in
+    ((calls gs gf lines s left new rests room p).0, w.0, w.1, w.2, w.3, w.4)
 
 -- ---- the lines
 
@@ -104,7 +105,7 @@ first_line items s t l new d =
     let b = log_begins t 2 (log_of s) l d in
     let number : b.number ≡ t = let e = b.answer in cc in
     let none : begun_count (written_lines (log_of s)) ≡ 0 = ap (λ n. begun_count (take n (vec_items (log_of s).lines))) new.written in
-    let serials = (log_of s).sounding.voices in
+    let serials = (log_of s).sounding.serials in
     let small : t < length serials = omega (arith, b.small, number, (log_of s).sounding.long) in
     record {
       lines = b.line.lines ∙ ap₂ (λ xs n. set xs n (begun_line 2 0 60 100 (log_of s))) new.lines new.written ∙ ap (λ n. set items 0 (begun n)) none;
@@ -117,7 +118,7 @@ last_line : (items : List Line) (t : ℕ) (l l' : VoiceLog) (a : Answer Cause) �
 unfolding found
 last_line items t l l' a f w d =
     let there : found t (notes l) ≡ Some (struck t) = ap (found t) w.logged ∙ ap (λ b. cond b (Some (struck t)) None) (self_eq t) in
-    let ends : Ends 11 t 64 (struck t) l a l' = subst (λ o. IfOwed o (Ends 11 t 64) l a l') there d in
+    let ends : Ends t 11 (struck t) 64 l a l' = subst (λ o. releases o t 11 64 l a l') there d in
     let line : Writes ended l l' = subst (λ o. StopLine o 11 Ended (struck t) 64 l l') f.serial ends.line in
     (line.lines ∙ ap₂ (λ xs n. set xs n ended) f.lines f.written, line.written ∙ ap (λ n. n + 1) f.written)
 
@@ -133,12 +134,12 @@ cleared s left a none d =
     let c = d.handed.call in
     c.cleared.handed.call.same ∙ released_nil (ap (tickets_of (picked Kept)) none) c.lifted.below
 
-pub logged : (lines : List Line) (s left : ExamStack) → New lines s → Rests s → 2 ≤ length lines → Plays stack_sees stack_meaning StackSound StackDoes stack_ends s left → take (log_of left).written (vec_items (log_of left).lines) ≡ the_log
+pub logged : (gs : Sink.Ghosts ExamStack ExamFault) (gf : Refusal.Ghosts ExamFault) (lines : List Line) (s left : ExamStack) → New lines s → Rests s → 2 ≤ length lines → Plays gs gf stack_sees stack_meaning StackSound StackDoes stack_ends s left → take (log_of left).written (vec_items (log_of left).lines) ≡ the_log
 unfolding rows
-logged lines s left new rests room p =
-    let c = calls lines s left new rests room p in
+logged gs gf lines s left new rests room p =
+    let c = calls gs gf lines s left new rests room p in
     let t = c.0 in
-    let r = rows lines s left new rests room p in
+    let r = rows gs gf lines s left new rests room p in
     let s₁ = p.r₁.player.stack in
     let s₅ = p.r₅.player.stack in
     let made = log_calls t s s₁ p.r₂.player.stack p.r₃.player.stack p.r₄.player.stack s₅ rests r in

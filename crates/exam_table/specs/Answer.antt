@@ -1,5 +1,7 @@
 -- Which pipes speak after each row.
 use Rattle.std.specs.Prelude.{◌≡◌, ℕ, ◌≤◌, false, List, [], length, replicate, pos, Some, ◌==◌}
+use Rattle.sink.specs.declared.fault.refusal.Refusal
+use Rattle.sink.specs.declared.sink.Sink
 use Rattle.sink.specs.Calls.{Start, Release, Tell, Set, Answer, ticket}
 use Rattle.sink.specs.Meaning.{Idle}
 use Rattle.roll.specs.Notes.{found}
@@ -53,8 +55,8 @@ AnswersStand =
     Speaks60 t s₁ × Speaks60 t s₂ × Speaks60 t s₃ × Speaks60 t s₄ × NoneSpeaks s₅
 
 -- and so it is in every run of the rows over a new stack with two lines or more
-abbrev pub RunsStand : Type 0
-RunsStand =
+abbrev pub RunsStand : (gs : Sink.Ghosts ExamStack ExamFault) (gf : Refusal.Ghosts ExamFault) → Type 0
+RunsStand gs gf =
     (lines : List Line) (stack left : ExamStack) → New lines stack → Rests stack → 2 ≤ length lines →
-    (p : Plays stack_sees stack_meaning StackSound StackDoes stack_ends stack left) →
+    (p : Plays gs gf stack_sees stack_meaning StackSound StackDoes stack_ends stack left) →
     (t : ℕ) × Speaks60 t p.r₁.player.stack × Speaks60 t p.r₂.player.stack × Speaks60 t p.r₃.player.stack × Speaks60 t p.r₄.player.stack × NoneSpeaks p.r₅.player.stack

@@ -7,6 +7,8 @@ ghost use Rattle.exam_table.specs.Sitting.{Logs, the_log};
 use crate::row::Row;
 use hold::hold::Hold;
 use run::Run;
+use sink::fault::refusal::Refusal;
+use sink::fault::{Cause, LayerFault};
 use sink::sink::Sink;
 use transposer::transposer::Transposer;
 use voice_log::line::Line;
@@ -14,7 +16,7 @@ use voice_log::log::VoiceLog;
 
 // Opens a run over a stack, plays the rows in their order, closes it, and hands the stack back.
 pub fn play<S: Sink>(stack: S) -> S
-    ensures { Plays Fault-as-Refusal.denial S.Sink.meaning S.Sink.sound S.Sink.does S.Sink.ends stack result }
+    ensures { Plays S.Sink S.Fault.Refusal S.Fault.Refusal.denial S.Sink.meaning S.Sink.sound S.Sink.does S.Sink.ends stack result }
 {
     let (mut run, slip) = Run::open(stack);
     Row::KeyDown.act(&mut run);
@@ -57,7 +59,7 @@ fn unstack(stack: ExamStack) -> Logged
 // Plays the rows through a new stack over these lines. With two lines or more, key 60 begins with the first row and ends
 // with the last, and nothing else is logged.
 pub fn log(lines: Vec<Line>) -> Logged
-    ensures logs { Logs lines.items result.written result.lines.items }
+    ensures logs { Logs ⟦<ExamStack as Sink>⟧ ⟦<LayerFault<LayerFault<Cause>> as Refusal>⟧ lines.items result.written result.lines.items }
     ensures within { result.written ≤ vec_len result.lines }
     ensures exact { 2 ≤ vec_len lines → take result.written result.lines.items ≡ the_log }
 {

@@ -7,7 +7,7 @@ use sink::sink::Sink;
 
 // Feeds bytes to a run.
 fn send<S: Sink>(run: &mut Run<S>, bytes: &[u8])
-    ensures { Fed Fault-as-Refusal.denial S.Sink.meaning S.Sink.sound S.Sink.does S.Sink.ends bytes.now run.old run.new }
+    ensures { Fed S.Fault.Refusal.denial S.Sink.meaning S.Sink.sound S.Sink.does S.Sink.ends bytes.now run.old run.new }
 {
     let _ = run.feed(bytes);
 }
@@ -27,7 +27,7 @@ impl Row {
 
     // Plays the row: key 60 or the pedal by its bytes, the transposer by its setting.
     pub fn act<S: Sink>(self, run: &mut Run<S>)
-        ensures { Acts Fault-as-Refusal.denial S.Sink.meaning S.Sink.sound S.Sink.does S.Sink.ends self run.old run.new }
+        ensures { Acts S.Fault.Refusal.denial S.Sink.meaning S.Sink.sound S.Sink.does S.Sink.ends self run.old run.new }
     {
         match self {
             Row::KeyDown => send(run, &[0x90, 60, 100]),

@@ -13,7 +13,7 @@ loop-key-preserved g c plain =
     let next : List ℕ = codes " " ++ decimal (get_or keys i 0) in
     has_written_of_eq g.W.Write.write_str_gives c.write_str-2.new.self (keys_text (take i keys) ++ next) (keys_text (take (i + 1) keys)) c.write.new.self
     (text_more keys i c.loop-key-test.true)
-    (has_written_append g.W.Write.write_str_gives c.write_str-2.new.self (keys_text (take i keys)) c.loop-key.f next c.write.new.self before (c.in_ok-write.ensures.shows before.plain refl))
+    (has_written_append g.W.Write.write_str_gives c.write_str-2.new.self (keys_text (take i keys)) c.loop-key.f next c.write.new.self before (c.in_ok-write.ensures.writes before.plain refl))
 
 pub returns-clause-writes : goal.returns-clause-writes
 returns-clause-writes g c plain ok =
