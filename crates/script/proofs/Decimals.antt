@@ -1,7 +1,7 @@
 -- Numbers that are written in decimal are read back.
 use Rattle.std.proofs.Common.{◌≡◌, ℕ, suc, ◌+◌, ◌*◌, ◌/◌, ◌%◌, ◌^◌, ◌<◌, ◌≤◌, List, [], ◌∷◌, ◌++◌, length, get_or, ℤ, pos, negsuc, Some, None, decimal, Option, refl, ap, ◌∙◌, arith}
 use lib.Signed.{mag}
-use Rattle.std.specs.List.{AllByRecursion as All}
+use Rattle.std.specs.List.{AllByRecursion}
 use Rattle.std.specs.Fmt.{signed_decimal}
 use Rattle.std.proofs.lemmas.Fmt.{decimal_by_steps}
 use Rattle.std.proofs.lemmas.List.{get_or_append_left, length-append}
@@ -29,13 +29,13 @@ digit_back d h = grind (arith, nat_tests)
 plain_digit : (d : ℕ) → d < 10 → Plain (48 + d)
 plain_digit d h = (grind (arith, nat_tests), grind (arith, nat_tests))
 
-plain_push : (w : List ℕ) (c : ℕ) → All Plain w → Plain c → All Plain (w ++ (c ∷ []))
+plain_push : (w : List ℕ) (c : ℕ) → AllByRecursion Plain w → Plain c → AllByRecursion Plain (w ++ (c ∷ []))
 plain_push [] c h p = (p, tt)
 plain_push (x ∷ xs) c h p = (h.0, plain_push xs c h.1 p)
 
 -- ds are digits that write n
 record Writes (n : ℕ) (ds : List ℕ) : Type 0 where
-  plain : All Plain ds
+  plain : AllByRecursion Plain ds
   some : 0 < length ds
   digit : 48 ≤ get_or ds 0 0
   number : number_after ds 0 ≡ Some n
@@ -76,7 +76,7 @@ signed_back (negsuc n) h =
 minus_plain : Plain 45
 minus_plain = (refl, refl)
 
-signed_plain : (z : ℤ) → mag z < 2 ^ 31 → All Plain (signed_decimal z) × (0 < length (signed_decimal z))
+signed_plain : (z : ℤ) → mag z < 2 ^ 31 → AllByRecursion Plain (signed_decimal z) × (0 < length (signed_decimal z))
 signed_plain (pos n) h = let was = writes n (omega arith) in (was.plain, was.some)
 signed_plain (negsuc n) h = ((minus_plain, (writes (suc n) (omega arith)).plain), omega arith)
 
@@ -84,7 +84,7 @@ ended_some : (w : List ℕ) (ws : List (List ℕ)) → 0 < length w → ended w 
 ended_some [] ws h = absurd (omega arith)
 ended_some (c ∷ cs) ws h = refl
 
-word_then : (w xs : List ℕ) → All Plain w → 0 < length w → words_of (uncommented (w ++ (32 ∷ xs))) ≡ w ∷ words_of (uncommented xs)
+word_then : (w xs : List ℕ) → AllByRecursion Plain w → 0 < length w → words_of (uncommented (w ++ (32 ∷ xs))) ≡ w ∷ words_of (uncommented xs)
 word_then w xs h some =
     ap words_of (plain_uncommented w (32 ∷ xs) h) ∙ plain_words [] w (32 ∷ uncommented xs) h ∙ ended_some w (words_of (uncommented xs)) some
 

@@ -1,6 +1,6 @@
 -- What is written as words is read back.
 use Rattle.std.proofs.Common.{◌≡◌, ℕ, ◌+◌, ◌*◌, ◌/◌, ◌%◌, ◌<◌, Bool, true, false, eqb, List, [], ◌∷◌, ◌++◌, Some, sym, refl, ap, ◌∙◌, append_assoc, append-nil, arith}
-use Rattle.std.specs.List.{AllByRecursion as All}
+use Rattle.std.specs.List.{AllByRecursion}
 use Rattle.std.specs.Fmt.{digit_glyph}
 use Rattle.std.proofs.lemmas.Bool.{cond-false}
 use Rattle.std.proofs.lemmas.Bool.Decides.{nat_tests}
@@ -13,17 +13,17 @@ use Rattle.script.specs.Laws.{hex_text, BytesReturn}
 abbrev pub Plain : ℕ → Type 0
 Plain c = (blank c ≡ false) × (eqb c 35 ≡ false)
 
-pub plain_uncommented : (w xs : List ℕ) → All Plain w → uncommented (w ++ xs) ≡ w ++ uncommented xs
+pub plain_uncommented : (w xs : List ℕ) → AllByRecursion Plain w → uncommented (w ++ xs) ≡ w ++ uncommented xs
 plain_uncommented [] xs h = refl
 plain_uncommented (c ∷ cs) xs h = cond-false (eqb c 35) _ _ h.0.1 ∙ ap (λ l. c ∷ l) (plain_uncommented cs xs h.1)
 
-pub plain_words : (v w xs : List ℕ) → All Plain w → words_after v (w ++ xs) ≡ words_after (v ++ w) xs
+pub plain_words : (v w xs : List ℕ) → AllByRecursion Plain w → words_after v (w ++ xs) ≡ words_after (v ++ w) xs
 plain_words v [] xs h = ap (λ l. words_after l xs) (sym (append-nil v))
 plain_words v (c ∷ cs) xs h =
     cond-false (blank c) _ _ h.0.0 ∙ plain_words (v ++ (c ∷ [])) cs xs h.1 ∙ ap (λ l. words_after l xs) (append_assoc v (c ∷ []) cs)
 
 -- a word with no other behind it
-pub last_word : (w : List ℕ) → All Plain w → words_of (uncommented w) ≡ ended w []
+pub last_word : (w : List ℕ) → AllByRecursion Plain w → words_of (uncommented w) ≡ ended w []
 last_word w h =
     ap (λ l. words_of (uncommented l)) (sym (append-nil w)) ∙ ap words_of (plain_uncommented w [] h) ∙ plain_words [] w [] h
 
@@ -35,12 +35,12 @@ glyph_back : (upper : Bool) (d : ℕ) → d < 16 → hex_digit_of (digit_glyph u
 glyph_back true d h = grind (arith, nat_tests)
 glyph_back false d h = grind (arith, nat_tests)
 
-plain_hex : (upper : Bool) (bs : List ℕ) → All (λ b. b < 256) bs → All Plain (hex_text upper bs)
+plain_hex : (upper : Bool) (bs : List ℕ) → AllByRecursion (λ b. b < 256) bs → AllByRecursion Plain (hex_text upper bs)
 plain_hex upper [] h = tt
 plain_hex upper (b ∷ bs) h =
     let low = h.0 in (plain_glyph upper (b / 16) (omega arith), (plain_glyph upper (b % 16) (omega arith), plain_hex upper bs h.1))
 
-hex_back : (upper : Bool) (bs : List ℕ) → All (λ b. b < 256) bs → hex_bytes (hex_text upper bs) ≡ Some bs
+hex_back : (upper : Bool) (bs : List ℕ) → AllByRecursion (λ b. b < 256) bs → hex_bytes (hex_text upper bs) ≡ Some bs
 hex_back upper [] h = refl
 hex_back upper (b ∷ bs) h =
     let low = h.0 in

@@ -1,7 +1,7 @@
 -- The laws of a script's lines.
 use Rattle.std.specs.Prelude.{◌≡◌, ℕ, ◌/◌, ◌%◌, ◌^◌, ◌<◌, Bool, true, List, [], ◌∷◌, ◌++◌, ℤ, negsuc, codes, decimal}
 use Rattle.std.specs.Int.Signed.{mag}
-use Rattle.std.specs.List.{AllByRecursion as All}
+use Rattle.std.specs.List.{AllByRecursion}
 use Rattle.std.specs.Fmt.{signed_decimal, digit_glyph}
 use Rattle.script.specs.Words.{blank}
 use Rattle.script.specs.Meanings.{feeds, sets, meant}
@@ -10,7 +10,7 @@ abbrev pub CommentsSkipped : Type 0
 CommentsSkipped = (xs ys : List ℕ) → meant (xs ++ (35 ∷ ys)) ≡ meant xs
 
 abbrev pub Blanks : List ℕ → Type 0
-Blanks cs = All (λ c. blank c ≡ true) cs
+Blanks cs = AllByRecursion (λ c. blank c ≡ true) cs
 
 abbrev pub BlanksSkipped : Type 0
 BlanksSkipped = (bs xs cs : List ℕ) → Blanks bs → Blanks cs → meant (bs ++ (xs ++ cs)) ≡ meant xs
@@ -22,7 +22,7 @@ hex_text upper (b ∷ bs) = digit_glyph upper (b / 16) ∷ digit_glyph upper (b 
 
 -- bytes that are written in hexadecimal, in either case, are read back
 abbrev pub BytesReturn : Type 0
-BytesReturn = (upper : Bool) (bs : List ℕ) → All (λ b. b < 256) bs → meant (codes "feed " ++ hex_text upper bs) ≡ feeds bs
+BytesReturn = (upper : Bool) (bs : List ℕ) → AllByRecursion (λ b. b < 256) bs → meant (codes "feed " ++ hex_text upper bs) ≡ feeds bs
 
 -- numbers that are written in decimal are read back; mag is n at n and at - (n + 1)
 abbrev pub NumbersReturn : Type 0
