@@ -34,18 +34,18 @@ not_denied : {F A : Type 0} (x : ℕ) (f : F) → ticket x ≡ denied f → A
 not_denied x f e = absurd (subst IsTicket e tt)
 
 -- a ticket of the notes after another one joined was of the notes before
-named_one : (b : Bool) (t u : ℕ) → t == u ≡ false → named (cond b (t ∷ []) []) u ≡ false
+named_one : (b : Bool) (t u : ℕ) → (t == u) ≡ false → named (cond b (t ∷ []) []) u ≡ false
 unfolding named
 named_one true t u e = or-false (t == u) ∙ e
 named_one false t u e = refl
 
-older : (b : Bool) (p : Note → Bool) (ns : List Note) (n : Note) (u : ℕ) → n.ticket == u ≡ false → named (tickets_of p (cond b ns (ns ++ (n ∷ [])))) u ≡ true → named (tickets_of p ns) u ≡ true
+older : (b : Bool) (p : Note → Bool) (ns : List Note) (n : Note) (u : ℕ) → (n.ticket == u) ≡ false → named (tickets_of p (cond b ns (ns ++ (n ∷ [])))) u ≡ true → named (tickets_of p ns) u ≡ true
 older true p ns n u e h = h
 older false p ns n u e h = sym (or-false (named (tickets_of p ns) u)) ∙ ap (λ b. named (tickets_of p ns) u || b) (sym (named_one (p n) n.ticket u e)) ∙ sym (ap (λ l. named l u) (tickets_snoc p ns n) ∙ named_append (tickets_of p ns) (cond (p n) (n.ticket ∷ []) []) u) ∙ h
 
 module _ {S F : Type 0} {sees : F → Denial} {meaning : S → Meaning} {sound : S → Type 0} {does : S → Call → Answer F → S → Type 0} (law : Lawful sees meaning sound does) (s : Mono S) (h : MonoSound meaning sound s) (c : ℕ) (mono : slice_index_or s.modes.on c false ≡ true) where
   abbrev Silent : ℕ → Mono S → Type 0
-  Silent x t = (u : ℕ) → named (tickets_of (picked (On c)) (notes_of t.rolled)) u ≡ true → x == u ≡ false → (meaning t.rolled.below).sounding u ≡ false
+  Silent x t = (u : ℕ) → named (tickets_of (picked (On c)) (notes_of t.rolled)) u ≡ true → (x == u) ≡ false → (meaning t.rolled.below).sounding u ≡ false
 
   started : (p k v x : ℕ) (t : Mono S) → startable c k v ≡ true → says_yes (mono_meaning meaning s).ready ≡ true → Started meaning does p c k v s (ticket x) t → Silent x t
   started p k v x t ok free d u e other =

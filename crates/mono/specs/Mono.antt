@@ -62,4 +62,4 @@ module _ {S F : Type 0} (sees : F → Denial) (meaning : S → Meaning) (does : 
   abbrev pub OneSounds : (channel : ℕ) (mono : Bool) → Mono S → Type 0
   OneSounds c mono s =
       mono ≡ true → (p k v x : ℕ) (t : Mono S) → MonoDoes s (Start p c k v) (ticket x) t →
-      (u : ℕ) → named (tickets_of (picked (On c)) (notes_of t.rolled)) u ≡ true → x == u ≡ false → (mono_meaning meaning t).sounding u ≡ false
+      (u : ℕ) → named (tickets_of (picked (On c)) (notes_of t.rolled)) u ≡ true → (x == u) ≡ false → (mono_meaning meaning t).sounding u ≡ false

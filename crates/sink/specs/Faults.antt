@@ -29,5 +29,5 @@ abbrev pub deeper : Denial → Denial
 deeper d = record { number = d.number; depth = cond (nat_le 255 d.depth) 255 (d.depth + 1) }
 
 abbrev pub layer_denial : {F : Type 0} → (F → Denial) → LayerFault F → Denial
-layer_denial of-below (Own c) = here c
-layer_denial of-below (Below f) = deeper (of-below f)
+layer_denial of_below (Own c) = here c
+layer_denial of_below (Below f) = deeper (of_below f)

@@ -1,5 +1,5 @@
 ghost use Rattle.std.specs.Prelude.{◌≡◌, ◌+◌, ◌≤◌, replicate, is_some, Some, None, slice_set};
-ghost use Rattle.roll.specs.Voices.{one, voice as voice-of};
+ghost use Rattle.roll.specs.Voices.{one, voice as voice_of};
 
 use crate::sounding::Sounding;
 
@@ -29,7 +29,7 @@ impl<V: Copy> Sounding<V> {
 
     // What is kept of a ticket, if it sounds.
     pub fn voice(&self, ticket: u16) -> Option<V>
-        ensures { result ≡ voice-of self.now.voices ticket }
+        ensures { result ≡ voice_of self.now.voices ticket }
     {
         let i = ticket as usize;
         if i < 128 { self.voices[i] } else { None }
@@ -46,15 +46,15 @@ impl<V: Copy> Sounding<V> {
     // A ticket sounds no more.
     pub fn stop(&mut self, ticket: u16)
         ensures voices { self.new.voices ≡ slice_set self.old.voices ticket None }
-        ensures count { self.new.count + one (is_some (voice-of self.old.voices ticket)) ≡ self.old.count }
+        ensures count { self.new.count + one (is_some (voice_of self.old.voices ticket)) ≡ self.old.count }
     {
         self.put(ticket, None);
     }
 
     fn put(&mut self, ticket: u16, voice: Option<V>)
         ensures voices { self.new.voices ≡ slice_set self.old.voices ticket voice }
-        ensures most { self.new.count + one (is_some (voice-of self.old.voices ticket)) ≤ self.old.count + one (is_some voice) }
-        ensures least { self.old.count ≤ self.new.count + one (is_some (voice-of self.old.voices ticket)) }
+        ensures most { self.new.count + one (is_some (voice_of self.old.voices ticket)) ≤ self.old.count + one (is_some voice) }
+        ensures least { self.old.count ≤ self.new.count + one (is_some (voice_of self.old.voices ticket)) }
     {
         let i = ticket as usize;
         if i < 128 {
