@@ -1,40 +1,66 @@
 -- How bytes are read from a word, two digits at a time.
-use Rattle.std.proofs.Common.{◌≡◌, ℕ, ◌-◌, ◌<◌, ◌≤◌, Bool, true, false, eqb, List, [], ◌∷◌, ◌++◌, length, get_or, take, drop, Some, None, Option, sym, refl, ap, ◌∙◌, subst, append_assoc, append-nil, arith}
-use Rattle.std.proofs.lemmas.List.{take_rest}
+use Rattle.std.proofs.Common.{◌≡◌, ℕ, ◌+◌, ◌*◌, ◌/◌, ◌<◌, ◌≤◌, zero, suc, List, [], ◌∷◌, ◌++◌, length, get_or, take, drop, Some, None, Ok, Err, Option, sym, refl, ap, ◌∙◌, append_assoc, append-nil, length-drop, arith}
+use Rattle.std.specs.Option.{ok_or}
+use Rattle.std.specs.Simd.{first_chunks}
+use Rattle.std.proofs.lemmas.List.{drop-drop}
+use Rattle.script.specs.declared.unread.Unread.{Unread}
+use Rattle.script.specs.declared.unread.Unread.TheVariants.{Unreadable}
 use Rattle.script.specs.Numbers.{hex_digit_of, paired, before, hex_bytes, joined_bytes, Adds}
 
 -- the byte of the first two digits
 abbrev pub first_byte : List ℕ → Option ℕ
 first_byte w = paired (hex_digit_of (get_or w 0 0)) (hex_digit_of (get_or w 1 0))
 
+drop_on : (m n : ℕ) (w : List ℕ) → drop m (drop n w) ≡ drop (m + n) w
+drop_on m n w = grind (arith, drop-drop)
+
+pair_at : (k i : ℕ) (w : List ℕ) → i < k → get_or (first_chunks 2 k w) i [] ≡ take 2 (drop (i * 2) w)
+pair_at zero i w h = absurd (omega arith)
+pair_at (suc k) zero w h = refl
+pair_at (suc k) (suc i) w h = pair_at k i (drop 2 w) (omega arith) ∙ ap (take 2) (drop_on (i * 2) 2 w ∙ ap (λ n. drop n w) (omega arith))
+
+hex_step : (w : List ℕ) → 2 ≤ length w → hex_bytes w ≡ before (first_byte (take 2 w)) (hex_bytes (drop 2 w))
+hex_step [] some = absurd (omega arith)
+hex_step (h ∷ []) some = absurd (omega arith)
+hex_step (h ∷ l ∷ cs) some = refl
+
+-- what is still to be read of a word: the pair at i, and what follows
+hex_at : (w : List ℕ) (i : ℕ) (pair : List ℕ) → i < length w / 2 → pair ≡ get_or (first_chunks 2 (length w / 2) w) i [] → hex_bytes (drop (i * 2) w) ≡ before (first_byte pair) (hex_bytes (drop ((i + 1) * 2) w))
+hex_at w i pair h e =
+    let some : 2 ≤ length (drop (i * 2) w) = omega (arith, length-drop {A = ℕ}) in
+    hex_step (drop (i * 2) w) some ∙ ap (λ p. before (first_byte p) (hex_bytes (drop 2 (drop (i * 2) w)))) (sym (e ∙ pair_at (length w / 2) i w h))
+    ∙ ap (λ l. before (first_byte pair) (hex_bytes l)) (drop_on 2 (i * 2) w ∙ ap (λ n. drop n w) (omega arith))
+
 put_on : (xs : List ℕ) (b : ℕ) (bs : Option (List ℕ)) → joined_bytes (Some (xs ++ (b ∷ []))) bs ≡ joined_bytes (Some xs) (before (Some b) bs)
 put_on xs b None = refl
 put_on xs b (Some bs) = ap Some (append_assoc xs (b ∷ []) bs)
 
-byte_more_at : (w xs : List ℕ) (b : ℕ) → 2 ≤ length w → Some b ≡ first_byte w → joined_bytes (Some (xs ++ (b ∷ []))) (hex_bytes (take (length w - 2) (drop 2 w))) ≡ joined_bytes (Some xs) (hex_bytes w)
-byte_more_at [] xs b some e = absurd (omega arith)
-byte_more_at (h ∷ []) xs b some e = absurd (omega arith)
-byte_more_at (h ∷ l ∷ cs) xs b some e =
-    ap (λ l. joined_bytes (Some (xs ++ (b ∷ []))) (hex_bytes l)) (take_rest (h ∷ l ∷ cs) 2) ∙ put_on xs b (hex_bytes cs) ∙ ap (λ d. joined_bytes (Some xs) (before d (hex_bytes cs))) e
+pub byte_more : (w xs ys pair : List ℕ) (i b : ℕ) (all : Option (List ℕ)) → i < length w / 2 → pair ≡ get_or (first_chunks 2 (length w / 2) w) i [] → first_byte pair ≡ Some b → ys ≡ xs ++ (b ∷ []) → joined_bytes (Some xs) (hex_bytes (drop (i * 2) w)) ≡ all → joined_bytes (Some ys) (hex_bytes (drop ((i + 1) * 2) w)) ≡ all
+byte_more w xs ys pair i b all h e some put sofar =
+    let rest = hex_bytes (drop ((i + 1) * 2) w) in
+    ap (λ l. joined_bytes (Some l) rest) put ∙ put_on xs b rest ∙ ap (λ o. joined_bytes (Some xs) (before o rest)) (sym some) ∙ ap (joined_bytes (Some xs)) (sym (hex_at w i pair h e)) ∙ sofar
 
-pub byte_more : (w xs ys : List ℕ) (b : ℕ) (all : Option (List ℕ)) → 2 ≤ length w → Some b ≡ first_byte w → ys ≡ xs ++ (b ∷ []) → joined_bytes (Some xs) (hex_bytes w) ≡ all → joined_bytes (Some ys) (hex_bytes (take (length w - 2) (drop 2 w))) ≡ all
-byte_more w xs ys b all some e put sofar =
-    ap (λ l. joined_bytes (Some l) (hex_bytes (take (length w - 2) (drop 2 w)))) put ∙ byte_more_at w xs b some e ∙ sofar
-
-pub no_byte : (w xs : List ℕ) → 2 ≤ length w → None ≡ first_byte w → joined_bytes (Some xs) (hex_bytes w) ≡ None
-no_byte [] xs some e = absurd (omega arith)
-no_byte (h ∷ []) xs some e = absurd (omega arith)
-no_byte (h ∷ l ∷ cs) xs some e = ap (λ d. joined_bytes (Some xs) (before d (hex_bytes cs))) (sym e)
-
-pub refused : (xs ys : List ℕ) (o : Option (List ℕ)) → joined_bytes (Some xs) o ≡ None → Adds false xs o ys
+refused : (xs ys : List ℕ) (o : Option (List ℕ)) → None ≡ joined_bytes (Some xs) o → Adds (Err Unreadable) xs o ys
 refused xs ys None e = tt
-refused xs ys (Some bs) e = absurd (let z : ◌≡◌ {A = ℕ} 0 1 = cc in omega arith)
+refused xs ys (Some bs) e = cc
 
-taken : (xs ys : List ℕ) (o : Option (List ℕ)) → Some ys ≡ joined_bytes (Some xs) o → Adds true xs o ys
-taken xs ys None e = absurd (let z : ◌≡◌ {A = ℕ} 0 1 = cc in omega arith)
+taken : (xs ys : List ℕ) (o : Option (List ℕ)) → Some ys ≡ joined_bytes (Some xs) o → Adds (Ok tt) xs o ys
+taken xs ys None e = cc
 taken xs ys (Some bs) e = cc
 
-pub at_end : (w xs ys : List ℕ) (o : Option (List ℕ)) (r : Bool) → length w < 2 → r ≡ eqb (length w) 0 → joined_bytes (Some ys) (hex_bytes w) ≡ joined_bytes (Some xs) o → Adds r xs o ys
-at_end [] xs ys o r short t e = subst (λ b. Adds b xs o ys) (sym t) (taken xs ys o (ap Some (sym (append-nil ys)) ∙ e))
-at_end (h ∷ []) xs ys o r short t e = subst (λ b. Adds b xs o ys) (sym t) (refused xs ys o (sym e))
-at_end (h ∷ l ∷ cs) xs ys o r short t e = absurd (omega arith)
+pub no_byte : (w xs ys zs pair : List ℕ) (i : ℕ) (o : Option (List ℕ)) → i < length w / 2 → pair ≡ get_or (first_chunks 2 (length w / 2) w) i [] → first_byte pair ≡ None → joined_bytes (Some xs) (hex_bytes (drop (i * 2) w)) ≡ joined_bytes (Some ys) o → Adds (Err Unreadable) ys o zs
+no_byte w xs ys zs pair i o h e none sofar =
+    refused ys zs o (ap (λ b. joined_bytes (Some xs) (before b (hex_bytes (drop ((i + 1) * 2) w)))) (sym none) ∙ ap (joined_bytes (Some xs)) (sym (hex_at w i pair h e)) ∙ sofar)
+
+pub all_read : (xs ys rest : List ℕ) (o : Option (List ℕ)) → length rest ≡ 0 → joined_bytes (Some xs) (hex_bytes rest) ≡ joined_bytes (Some ys) o → Adds (Ok tt) ys o xs
+all_read xs ys [] o none sofar = taken ys xs o (ap Some (sym (append-nil xs)) ∙ sofar)
+all_read xs ys (c ∷ cs) o none sofar = absurd (omega arith)
+
+pub one_left : (xs ys zs rest : List ℕ) (o : Option (List ℕ)) → length rest ≡ 1 → joined_bytes (Some xs) (hex_bytes rest) ≡ joined_bytes (Some ys) o → Adds (Err Unreadable) ys o zs
+one_left xs ys zs [] o one sofar = absurd (omega arith)
+one_left xs ys zs (c ∷ []) o one sofar = refused ys zs o sofar
+one_left xs ys zs (c ∷ d ∷ cs) o one sofar = absurd (omega arith)
+
+-- an option that gave no value
+pub unreadable_from_none : (o : Option ℕ) (e : Unread) → Err e ≡ ok_or o Unreadable → (o ≡ None) × (e ≡ Unreadable)
+unreadable_from_none o e h = grind arith

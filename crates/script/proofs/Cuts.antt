@@ -1,84 +1,62 @@
 -- How the words of a text come one by one.
-use Rattle.std.proofs.Common.{◌≡◌, ℕ, ◌+◌, ◌-◌, ◌<◌, ◌≤◌, Bool, true, false, cond, eqb, List, [], ◌∷◌, ◌++◌, length, get_or, take, drop, sym, refl, ap, ◌∙◌, subst, ⊎_elim, append_assoc, append-nil, arith}
-use Rattle.std.proofs.lemmas.List.{drop_more, drop_all, take_more, take_all, take_rest, nil_from_length}
-use Rattle.std.proofs.lemmas.Bool.{eq-eqb, cases_Bool, cond-true, cond-false, cond_both}
-use Rattle.script.specs.Words.{uncommented, blank, ended, words_after, words_of, unblanked, first_word, behind_word}
+use Rattle.std.proofs.Common.{◌≡◌, ℕ, ◌+◌, ◌-◌, ◌<◌, ◌≤◌, Bool, true, false, not, cond, eqb, List, [], ◌∷◌, ◌++◌, length, get_or, take, drop, Some, None, position, sym, refl, ap, ◌∙◌, ⊎_elim, append_assoc, append-nil, arith, one-add}
+use Rattle.std.specs.List.{position_or_len}
+use Rattle.std.proofs.lemmas.List.{drop_all, take_rest}
+use Rattle.std.proofs.lemmas.List.Sums.{take_while-cons}
+use Rattle.std.proofs.lemmas.List.Quantifiers.{position-Some}
+use Rattle.std.proofs.lemmas.Grind.{common_steps}
+use Rattle.std.proofs.lemmas.Bool.{cases_Bool, cond-true, cond-false}
+use Rattle.script.specs.Words.{uncommented, blank, ended, words_after, words_of}
 
-pub comment_here : (xs : List ℕ) (i : ℕ) → i < length xs → get_or xs i 0 ≡ 35 → take i xs ++ uncommented (drop i xs) ≡ take i xs
-comment_here xs i h e =
-    ap (λ l. take i xs ++ uncommented l) (drop_more xs i 0 h) ∙ ap (λ b. take i xs ++ cond b [] (get_or xs i 0 ∷ uncommented (drop (i + 1) xs))) (eq-eqb _ _ e) ∙ append-nil (take i xs)
+pub comment_cut : (xs : List ℕ) → take (position_or_len (λ c. eqb c 35) xs) xs ≡ uncommented xs
+comment_cut [] = refl
+comment_cut (c ∷ cs) =
+    take_while-cons (λ c. not (eqb c 35)) c cs ∙ rw (comment_cut cs) (elim (eqb c 35) as (λ b. cond (not b) (c ∷ uncommented cs) [] ≡ cond b [] (c ∷ uncommented cs)) [ true ↦ refl | false ↦ refl ])
 
-pub comment_later : (xs : List ℕ) (i : ℕ) → i < length xs → eqb (get_or xs i 0) 35 ≡ false → take i xs ++ uncommented (drop i xs) ≡ take (i + 1) xs ++ uncommented (drop (i + 1) xs)
-comment_later xs i h e =
-    ap (λ l. take i xs ++ uncommented l) (drop_more xs i 0 h) ∙ ap (λ b. take i xs ++ cond b [] (get_or xs i 0 ∷ uncommented (drop (i + 1) xs))) e
-    ∙ sym (append_assoc (take i xs) (get_or xs i 0 ∷ []) (uncommented (drop (i + 1) xs))) ∙ ap (λ l. l ++ uncommented (drop (i + 1) xs)) (sym (take_more xs i 0 h))
-
-pub comment_never : (xs : List ℕ) (i : ℕ) → length xs ≤ i → take i xs ++ uncommented (drop i xs) ≡ xs
-comment_never xs i h = ap (λ l. take i xs ++ uncommented l) (drop_all i xs h) ∙ append-nil (take i xs) ∙ take_all i xs h
-
-pub blank_here : (xs : List ℕ) (i : ℕ) → i < length xs → blank (get_or xs i 0) ≡ true → unblanked (drop i xs) ≡ unblanked (drop (i + 1) xs)
-blank_here xs i h e =
-    ap unblanked (drop_more xs i 0 h) ∙ ap (λ b. cond b (unblanked (drop (i + 1) xs)) (get_or xs i 0 ∷ drop (i + 1) xs)) e
-
-pub word_here : (xs : List ℕ) (i : ℕ) → i < length xs → blank (get_or xs i 0) ≡ false → unblanked (drop i xs) ≡ drop i xs
-word_here xs i h e =
-    ap unblanked (drop_more xs i 0 h) ∙ ap (λ b. cond b (unblanked (drop (i + 1) xs)) (get_or xs i 0 ∷ drop (i + 1) xs)) e ∙ sym (drop_more xs i 0 h)
-
-pub word_ends : (xs : List ℕ) (i : ℕ) → i < length xs → blank (get_or xs i 0) ≡ true → (take i xs ++ first_word (drop i xs) ≡ take i xs) × (behind_word (drop i xs) ≡ drop i xs)
-word_ends xs i h e = (
-  ap (λ l. take i xs ++ first_word l) (drop_more xs i 0 h) ∙ ap (λ b. take i xs ++ cond b [] (get_or xs i 0 ∷ first_word (drop (i + 1) xs))) e ∙ append-nil (take i xs),
-  ap behind_word (drop_more xs i 0 h) ∙ ap (λ b. cond b (get_or xs i 0 ∷ drop (i + 1) xs) (behind_word (drop (i + 1) xs))) e ∙ sym (drop_more xs i 0 h),
-)
-
-pub word_goes_on : (xs : List ℕ) (i : ℕ) → i < length xs → blank (get_or xs i 0) ≡ false → (take i xs ++ first_word (drop i xs) ≡ take (i + 1) xs ++ first_word (drop (i + 1) xs)) × (behind_word (drop i xs) ≡ behind_word (drop (i + 1) xs))
-word_goes_on xs i h e = (
-  ap (λ l. take i xs ++ first_word l) (drop_more xs i 0 h) ∙ ap (λ b. take i xs ++ cond b [] (get_or xs i 0 ∷ first_word (drop (i + 1) xs))) e
-      ∙ sym (append_assoc (take i xs) (get_or xs i 0 ∷ []) (first_word (drop (i + 1) xs))) ∙ ap (λ l. l ++ first_word (drop (i + 1) xs)) (sym (take_more xs i 0 h)),
-  ap behind_word (drop_more xs i 0 h) ∙ ap (λ b. cond b (get_or xs i 0 ∷ drop (i + 1) xs) (behind_word (drop (i + 1) xs))) e,
-)
-
-pub word_to_end : (xs : List ℕ) (i : ℕ) → length xs ≤ i → (take i xs ++ first_word (drop i xs) ≡ xs) × (behind_word (drop i xs) ≡ [])
-word_to_end xs i h = (
-  ap (λ l. take i xs ++ first_word l) (drop_all i xs h) ∙ append-nil (take i xs) ∙ take_all i xs h,
-  ap behind_word (drop_all i xs h),
-)
-
--- blanks in front hold no word
-pub words_unblanked : (xs : List ℕ) → words_of (unblanked xs) ≡ words_of xs
-words_unblanked [] = refl
-words_unblanked (c ∷ cs) =
-    cond_both (blank c) (unblanked cs) (c ∷ cs) (λ l. words_of l ≡ words_of (c ∷ cs)) (λ t. words_unblanked cs ∙ sym (cond-true (blank c) _ _ t)) (λ f. refl)
-
--- the word in front, and then those behind it
-pub words_split : (w xs : List ℕ) → words_after w xs ≡ ended (w ++ first_word xs) (words_of (behind_word xs))
+-- a word in front, and then those behind it
+words_split : (w xs : List ℕ) → words_after w xs ≡ ended (w ++ take (position_or_len blank xs) xs) (words_of (drop (position_or_len blank xs) xs))
 words_split w [] = ap (λ l. ended l []) (sym (append-nil w))
 words_split w (c ∷ cs) =
-    let split : Bool → List (List ℕ) = λ b. ended (w ++ cond {A = List ℕ} b [] (c ∷ first_word cs)) (words_of (cond {A = List ℕ} b (c ∷ cs) (behind_word cs))) in
+    let n = position_or_len blank cs in
+    let split : Bool → List (List ℕ) = λ b. let k = cond (not b) (1 + n) 0 in ended (w ++ take k (c ∷ cs)) (words_of (drop k (c ∷ cs))) in
     ⊎_elim
     (λ t. cond-true (blank c) _ _ t ∙ ap (ended w) (sym (cond-true (blank c) _ _ t)) ∙ ap (λ l. ended l (words_of (c ∷ cs))) (sym (append-nil w)) ∙ ap split (sym t))
-    (λ f. cond-false (blank c) _ _ f ∙ words_split (w ++ (c ∷ [])) cs ∙ ap (λ l. ended l (words_of (behind_word cs))) (append_assoc w (c ∷ []) (first_word cs)) ∙ ap split (sym f))
+    (λ f. cond-false (blank c) _ _ f ∙ words_split (w ++ (c ∷ [])) cs ∙ ap (λ l. ended l (words_of (drop n cs))) (append_assoc w (c ∷ []) (take n cs)) ∙ ap (λ k. ended (w ++ take k (c ∷ cs)) (words_of (drop k (c ∷ cs)))) (sym (one-add n)) ∙ ap split (sym f))
     (cases_Bool (blank c))
 
--- no blank in front
-abbrev Bare : List ℕ → Type 0
-Bare [] = Unit {0}
-Bare (c ∷ cs) = blank c ≡ false
+-- blanks in front hold no word
+words_skip : (xs : List ℕ) → words_of xs ≡ words_of (drop (position_or_len (λ c. not (blank c)) xs) xs)
+words_skip [] = refl
+words_skip (c ∷ cs) =
+    let n = position_or_len (λ c. not (blank c)) cs in
+    let skip : Bool → List (List ℕ) = λ b. words_of (drop (cond (not (not b)) (1 + n) 0) (c ∷ cs)) in
+    ⊎_elim
+    (λ t. cond-true (blank c) _ _ t ∙ words_skip cs ∙ ap (λ k. words_of (drop k (c ∷ cs))) (sym (one-add n)) ∙ ap skip (sym t))
+    (λ f. ap skip (sym f))
+    (cases_Bool (blank c))
 
-unblanked_bare : (xs : List ℕ) → Bare (unblanked xs)
-unblanked_bare [] = tt
-unblanked_bare (c ∷ cs) = cond_both (blank c) (unblanked cs) (c ∷ cs) Bare (λ t. unblanked_bare cs) (λ f. f)
+pub no_word : (xs : List ℕ) → position (λ c. not (blank c)) xs ≡ None → words_of xs ≡ []
+no_word xs e =
+    let past : length xs ≤ position_or_len (λ c. not (blank c)) xs = grind (arith) in
+    words_skip xs ∙ ap words_of (drop_all _ xs past)
 
-bare_words : (xs : List ℕ) → Bare xs → (length xs ≡ 0 → ⊥) → words_of xs ≡ first_word xs ∷ words_of (behind_word xs)
-bare_words [] bare some = absurd (some refl)
-bare_words (c ∷ cs) bare some =
-    let behind = words_of (behind_word (c ∷ cs)) in
-    words_split [] (c ∷ cs) ∙ subst (λ b. ended (cond {A = List ℕ} b [] (c ∷ first_word cs)) behind ≡ cond {A = List ℕ} b [] (c ∷ first_word cs) ∷ behind) (sym bare) refl
+-- the text from a first word on
+front_word : (u : List ℕ) → 0 < length u → blank (get_or u 0 0) ≡ false → words_of u ≡ take (position_or_len blank u) u ∷ words_of (drop (position_or_len blank u) u)
+front_word [] some bare = absurd (omega arith)
+front_word (c ∷ cs) some bare =
+    let n = position_or_len blank cs in
+    let whole : position_or_len blank (c ∷ cs) ≡ 1 + n = cond-true (not (blank c)) _ _ (ap not bare) in
+    words_split [] (c ∷ cs) ∙ rw (whole, one-add) refl
 
-pub no_word : (xs u : List ℕ) → u ≡ unblanked xs → length u ≡ 0 → words_of xs ≡ []
-no_word xs u e none = sym (words_unblanked xs) ∙ ap words_of (sym e ∙ nil_from_length u none)
+not_blank : (b : Bool) → not b ≡ true → b ≡ false
+not_blank true e = sym e
+not_blank false e = refl
 
-pub next_word : (xs u : List ℕ) (n : ℕ) → u ≡ unblanked xs → (length u ≡ 0 → ⊥) → take n u ≡ first_word u → drop n u ≡ behind_word u → words_of xs ≡ take (n - 0) u ∷ words_of (take (length u - n) (drop n u))
-next_word xs u n e some front back =
-    let z : n ≡ n - 0 = omega arith in
-    sym (words_unblanked xs) ∙ ap words_of (sym e) ∙ bare_words u (subst Bare (sym e) (unblanked_bare xs)) some ∙ ap (λ l. l ∷ words_of (behind_word u)) (sym front ∙ ap (λ k. take k u) z)
-    ∙ ap (λ l. take (n - 0) u ∷ words_of l) (sym back ∙ sym (take_rest u n))
+pub next_word : (xs word rest : List ℕ) (start n : ℕ) → position (λ c. not (blank c)) xs ≡ Some start → n ≡ position_or_len blank (take (length xs - start) (drop start xs)) → word ≡ take n (take (length xs - start) (drop start xs)) → rest ≡ drop n (take (length xs - start) (drop start xs)) → words_of xs ≡ word ∷ words_of rest
+next_word xs word rest start n found long front back =
+    let at = position-Some (λ c. not (blank c)) xs start 0 found in
+    let here : start ≡ position_or_len (λ c. not (blank c)) xs = grind arith in
+    let first : get_or (drop start xs) 0 0 ≡ get_or xs start 0 = grind (arith, common_steps) in
+    let some : 0 < length (drop start xs) = grind (arith, common_steps) in
+    let from : take (length xs - start) (drop start xs) ≡ drop start xs = take_rest xs start in
+    words_skip xs ∙ ap (λ k. words_of (drop k xs)) (sym here) ∙ front_word (drop start xs) some (ap blank first ∙ not_blank _ at.1) ∙ cc

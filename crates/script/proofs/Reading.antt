@@ -1,27 +1,32 @@
 -- How the words of a line make an act.
-use Rattle.std.proofs.Common.{◌≡◌, ℕ, Bool, true, false, List, [], ◌∷◌, ◌++◌, ℤ, Some, None, Option, sym, refl, ap, ◌∙◌, append_assoc, arith}
+use Rattle.std.proofs.Common.{◌≡◌, ℕ, List, [], ◌∷◌, ◌++◌, ℤ, Some, None, Ok, Err, Option, sym, refl, ap, ◌∙◌, append_assoc}
+use Rattle.script.specs.declared.unread.Unread.{Unread}
+use Rattle.script.specs.declared.unread.Unread.TheVariants.{Memory, Unreadable}
+use Rattle.script.specs.Lines.{Tells}
 use Rattle.script.specs.Numbers.{hex_bytes, joined_bytes, all_bytes, number_of, signed_of, Adds}
 use Rattle.script.specs.Meanings.{Meant, sets, unreadable, feeds_all, sets_all, sets_by, by_itself}
 
 -- a word that is not read leaves no bytes
-stops_at : (read : Bool) (xs ys : List ℕ) (word rest : Option (List ℕ)) → read ≡ false → Adds read xs word ys → None ≡ joined_bytes (Some xs) (joined_bytes word rest)
-stops_at true xs ys word rest t adds = absurd (let z : ◌≡◌ {A = ℕ} 0 1 = cc in omega arith)
-stops_at false xs ys None rest t adds = refl
-stops_at false xs ys (Some bs) rest t adds = absurd adds
+stops_at : (xs ys : List ℕ) (word rest : Option (List ℕ)) → Adds (Err Unreadable) xs word ys → None ≡ joined_bytes (Some xs) (joined_bytes word rest)
+stops_at xs ys None rest adds = refl
+stops_at xs ys (Some bs) rest adds = absurd adds
 
-pub stops : (read : Bool) (xs ys w : List ℕ) (us ws : List (List ℕ)) (all : Option (List ℕ)) → us ≡ w ∷ ws → read ≡ false → Adds read xs (hex_bytes w) ys → joined_bytes (Some xs) (all_bytes us) ≡ all → unreadable ≡ feeds_all all
-stops read xs ys w us ws all e t adds sofar =
-    ap feeds_all (stops_at read xs ys (hex_bytes w) (all_bytes ws) t adds ∙ ap (λ l. joined_bytes (Some xs) (all_bytes l)) (sym e) ∙ sofar)
+stops : (xs ys w : List ℕ) (us ws : List (List ℕ)) (all : Option (List ℕ)) → us ≡ w ∷ ws → Adds (Err Unreadable) xs (hex_bytes w) ys → joined_bytes (Some xs) (all_bytes us) ≡ all → unreadable ≡ feeds_all all
+stops xs ys w us ws all e adds sofar =
+    ap feeds_all (stops_at xs ys (hex_bytes w) (all_bytes ws) adds ∙ ap (λ l. joined_bytes (Some xs) (all_bytes l)) (sym e) ∙ sofar)
 
-goes_on_at : (read : Bool) (xs ys : List ℕ) (word rest : Option (List ℕ)) → read ≡ true → Adds read xs word ys → joined_bytes (Some ys) rest ≡ joined_bytes (Some xs) (joined_bytes word rest)
-goes_on_at true xs ys None rest t adds = absurd adds
-goes_on_at true xs ys (Some bs) None t adds = refl
-goes_on_at true xs ys (Some bs) (Some cs) t adds = ap Some (ap (λ l. l ++ cs) adds ∙ append_assoc xs bs cs)
-goes_on_at false xs ys word rest t adds = absurd (let z : ◌≡◌ {A = ℕ} 0 1 = cc in omega arith)
+pub not_fed : (e : Unread) (xs ys w : List ℕ) (us ws : List (List ℕ)) (all : Option (List ℕ)) → us ≡ w ∷ ws → Adds (Err e) xs (hex_bytes w) ys → joined_bytes (Some xs) (all_bytes us) ≡ all → Tells (Err e) (feeds_all all)
+not_fed (Memory e) xs ys w us ws all split adds sofar = tt
+not_fed Unreadable xs ys w us ws all split adds sofar = stops xs ys w us ws all split adds sofar
 
-pub goes_on : (read : Bool) (xs ys w : List ℕ) (us ws : List (List ℕ)) (all : Option (List ℕ)) → us ≡ w ∷ ws → read ≡ true → Adds read xs (hex_bytes w) ys → joined_bytes (Some xs) (all_bytes us) ≡ all → joined_bytes (Some ys) (all_bytes ws) ≡ all
-goes_on read xs ys w us ws all e t adds sofar =
-    goes_on_at read xs ys (hex_bytes w) (all_bytes ws) t adds ∙ ap (λ l. joined_bytes (Some xs) (all_bytes l)) (sym e) ∙ sofar
+goes_on_at : (xs ys : List ℕ) (word rest : Option (List ℕ)) → Adds (Ok tt) xs word ys → joined_bytes (Some ys) rest ≡ joined_bytes (Some xs) (joined_bytes word rest)
+goes_on_at xs ys None rest adds = absurd adds
+goes_on_at xs ys (Some bs) None adds = refl
+goes_on_at xs ys (Some bs) (Some cs) adds = ap Some (ap (λ l. l ++ cs) adds ∙ append_assoc xs bs cs)
+
+pub goes_on : (xs ys w : List ℕ) (us ws : List (List ℕ)) (all : Option (List ℕ)) → us ≡ w ∷ ws → Adds (Ok tt) xs (hex_bytes w) ys → joined_bytes (Some xs) (all_bytes us) ≡ all → joined_bytes (Some ys) (all_bytes ws) ≡ all
+goes_on xs ys w us ws all e adds sofar =
+    goes_on_at xs ys (hex_bytes w) (all_bytes ws) adds ∙ ap (λ l. joined_bytes (Some xs) (all_bytes l)) (sym e) ∙ sofar
 
 three : (d i v : List ℕ) (ws : List (List ℕ)) → by_itself (sets_all (number_of d) (number_of i) (signed_of v)) ws ≡ sets_by (d ∷ i ∷ v ∷ ws)
 three d i v [] = refl

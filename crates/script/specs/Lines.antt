@@ -1,13 +1,12 @@
 -- What a line that was read says, and its parts on the way.
-use Rattle.std.specs.Prelude.{ℕ, List, Some, None, vec_items, Option}
+use Rattle.std.specs.Prelude.{◌≡◌, Some, None, Ok, Err, vec_items, Option, Result}
 use Rattle.script.specs.declared.Act.{Act}
 use Rattle.script.specs.declared.Act.TheVariants as a
 use Rattle.script.specs.declared.Line.{Line}
 use Rattle.script.specs.declared.Line.TheVariants as l
-use Rattle.script.specs.declared.commands.Command.{Command}
-use Rattle.script.specs.declared.commands.Command.TheVariants as c
-use Rattle.script.specs.Numbers.{all_bytes}
-use Rattle.script.specs.Meanings.{Meant, nothing, feeds, sets, tallies, closes, unreadable, feeds_all, sets_by, by_itself}
+use Rattle.script.specs.declared.unread.Unread.{Unread}
+use Rattle.script.specs.declared.unread.Unread.TheVariants as u
+use Rattle.script.specs.Meanings.{Meant, nothing, feeds, sets, tallies, closes, unreadable}
 
 abbrev pub act_says : Act → Meant
 act_says (a.Feed bytes) = feeds (vec_items bytes)
@@ -25,10 +24,8 @@ abbrev pub means : Option Act → Meant
 means None = unreadable
 means (Some act) = act_says act
 
--- what a command makes of the words that follow it
-abbrev pub asks : Command → List (List ℕ) → Meant
-asks c.Feed ws = feeds_all (all_bytes ws)
-asks c.Set ws = sets_by ws
-asks c.Tally ws = by_itself tallies ws
-asks c.Close ws = by_itself closes ws
-asks c.Unknown ws = unreadable
+-- an act that says what is meant, or that nothing that can be read is meant; without memory it tells nothing
+abbrev pub Tells : Result Act Unread → Meant → Type 0
+Tells (Ok act) m = act_says act ≡ m
+Tells (Err u.Unreadable) m = unreadable ≡ m
+Tells (Err (u.Memory e)) m = Unit {0}

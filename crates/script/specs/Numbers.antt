@@ -1,5 +1,7 @@
 -- What a word means as a number or as bytes.
-use Rattle.std.specs.Prelude.{◌≡◌, ℕ, ◌+◌, ◌-◌, ◌*◌, ◌^◌, Bool, true, false, cond, ◌&&◌, List, [], ◌∷◌, ◌++◌, ℤ, pos, neg_ℤ, Some, None, Option, ◌==◌, nat_le, nat_lt}
+use Rattle.std.specs.Prelude.{◌≡◌, ℕ, ◌+◌, ◌-◌, ◌*◌, ◌^◌, Bool, cond, ◌&&◌, List, [], ◌∷◌, ◌++◌, ℤ, pos, neg_ℤ, Some, None, Ok, Err, Option, Result, ◌==◌, nat_le, nat_lt}
+use Rattle.script.specs.declared.unread.Unread.{Unread}
+use Rattle.script.specs.declared.unread.Unread.TheVariants as u
 
 abbrev pub among : ℕ → ℕ → ℕ → Bool
 among low high c = nat_le low c && nat_le c high
@@ -30,12 +32,13 @@ hex_bytes [] = Some []
 hex_bytes (h ∷ []) = None
 hex_bytes (h ∷ l ∷ cs) = before (paired (hex_digit_of h) (hex_digit_of l)) (hex_bytes cs)
 
--- whether a word is read, and the bytes behind those that stood there
-abbrev pub Adds : Bool → List ℕ → Option (List ℕ) → List ℕ → Type 0
-Adds true xs None ys = ⊥
-Adds true xs (Some bs) ys = ys ≡ xs ++ bs
-Adds false xs None ys = Unit {0}
-Adds false xs (Some bs) ys = ⊥
+-- a word that is read puts its bytes behind those that stood there; without memory it tells nothing
+abbrev pub Adds : Result (Unit {0}) Unread → List ℕ → Option (List ℕ) → List ℕ → Type 0
+Adds (Ok x) xs None ys = ⊥
+Adds (Ok x) xs (Some bs) ys = ys ≡ xs ++ bs
+Adds (Err u.Unreadable) xs None ys = Unit {0}
+Adds (Err u.Unreadable) xs (Some bs) ys = ⊥
+Adds (Err (u.Memory e)) xs bs ys = Unit {0}
 
 abbrev pub joined_bytes : Option (List ℕ) → Option (List ℕ) → Option (List ℕ)
 joined_bytes None cs = None

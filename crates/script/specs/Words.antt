@@ -22,16 +22,3 @@ words_after w (c ∷ cs) = cond (blank c) (ended w (words_after [] cs)) (words_a
 
 abbrev pub words_of : List ℕ → List (List ℕ)
 words_of cs = words_after [] cs
-
--- a text without the blanks in front, its first word and what follows that
-abbrev pub unblanked : List ℕ → List ℕ
-unblanked [] = []
-unblanked (c ∷ cs) = cond (blank c) (unblanked cs) (c ∷ cs)
-
-abbrev pub first_word : List ℕ → List ℕ
-first_word [] = []
-first_word (c ∷ cs) = cond (blank c) [] (c ∷ first_word cs)
-
-abbrev pub behind_word : List ℕ → List ℕ
-behind_word [] = []
-behind_word (c ∷ cs) = cond (blank c) (c ∷ cs) (behind_word cs)

@@ -5,18 +5,18 @@ ghost use Rattle.std.specs.Prelude.{◌≡◌, IfOk};
 ghost use Rattle.script.specs.Meanings.{meant};
 ghost use Rattle.script.specs.Lines.{says};
 
-use commands::Command;
 use std::alloc::{AllocError, Global};
+use unread::Unread;
 use words::Words;
 
 mod acts;
-mod commands;
 mod numbers;
 pub mod theorems;
+mod unread;
 mod words;
 
 // What a line asks for.
-#[derive(Drop)]
+#[derive(Debug, PartialEq, Drop)]
 pub enum Act {
     Feed(Vec<u8>),
     Set { depth: u32, item: u32, value: i32 },
@@ -24,8 +24,8 @@ pub enum Act {
     Close,
 }
 
-// A line as read.
-#[derive(Drop)]
+// A line as read. One that cannot be read is no error: it is answered like any other, and reading goes on behind it.
+#[derive(Debug, PartialEq, Drop)]
 pub enum Line {
     // no word stands there
     Empty,
@@ -41,15 +41,9 @@ pub fn read_line(heap: Global, line: &[u8]) -> Result<Line, AllocError>
     let Some(name) = words.next() else {
         return Ok(Line::Empty);
     };
-    let act = match Command::named(name) {
-        Command::Feed => acts::feed(heap, words)?,
-        Command::Set => acts::set(words),
-        Command::Tally => acts::alone(Act::Tally, words),
-        Command::Close => acts::alone(Act::Close, words),
-        Command::Unknown => None,
-    };
-    match act {
-        Some(act) => Ok(Line::Act(act)),
-        None => Ok(Line::Unreadable),
+    match acts::named(heap, name, words) {
+        Ok(act) => Ok(Line::Act(act)),
+        Err(Unread::Unreadable) => Ok(Line::Unreadable),
+        Err(Unread::Memory(error)) => Err(error),
     }
 }

@@ -1,35 +1,24 @@
-ghost use Rattle.std.specs.Prelude.{◌≡◌, ◌+◌, ◌*◌, ◌^◌, IfOk, Some};
+ghost use Rattle.std.specs.Prelude.{◌≡◌, ◌+◌, ◌*◌, ◌^◌, ◌⊎◌, Some};
 ghost use Rattle.script.specs.Numbers.{decimal_digit, hex_digit_of, paired, hex_bytes, under, number_of, positive, negative, signed_of, Adds};
 
-use std::alloc::AllocError;
+use crate::unread::Unread;
 
-fn decimal_digit(byte: u8) -> Option<u8>
-    ensures { result ≡ decimal_digit byte }
+// A digit in decimal or in hexadecimal.
+fn digit(byte: u8, radix: u32) -> Option<u32>
+    requires { (radix ≡ 10) ⊎ (radix ≡ 16) }
+    ensures decimal { radix ≡ 10 → result ≡ decimal_digit byte }
+    ensures hexadecimal { radix ≡ 16 → result ≡ hex_digit_of byte }
 {
-    match byte {
-        b'0'..=b'9' => Some(byte - b'0'),
-        _ => None,
-    }
-}
-
-fn hex_digit(byte: u8) -> Option<u8>
-    ensures { result ≡ hex_digit_of byte }
-{
-    match byte {
-        b'0'..=b'9' => Some(byte - b'0'),
-        b'A'..=b'F' => Some(byte - b'A' + 10),
-        b'a'..=b'f' => Some(byte - b'a' + 10),
-        _ => None,
-    }
+    char::from(byte).to_digit(radix)
 }
 
 // The byte of two digits.
 fn hex_byte(high: u8, low: u8) -> Option<u8>
     ensures { result ≡ paired (hex_digit_of high) (hex_digit_of low) }
 {
-    let high = hex_digit(high)?;
-    let low = hex_digit(low)?;
-    Some(16 * high + low)
+    let high = digit(high, 16)?;
+    let low = digit(low, 16)?;
+    Some((16 * high + low) as u8)
 }
 
 // A number of one digit or more that fits 32 bits.
@@ -41,17 +30,16 @@ pub(crate) fn number(word: &[u8]) -> Option<u32>
     }
     let mut n = 0;
     for byte in word {
-        let digit = decimal_digit(*byte)?;
-        n = with_digit(n, digit)?;
+        n = with_digit(n, digit(*byte, 10)?)?;
     }
     Some(n)
 }
 
 // A number with one digit more, if it fits.
-fn with_digit(n: u32, digit: u8) -> Option<u32>
+fn with_digit(n: u32, digit: u32) -> Option<u32>
     ensures { result ≡ under (2 ^ 32) (Some (n * 10 + digit)) }
 {
-    n.checked_mul(10)?.checked_add(u32::from(digit))
+    n.checked_mul(10)?.checked_add(digit)
 }
 
 // A number with a minus before, or without, that fits 32 bits with its sign.
@@ -76,17 +64,18 @@ fn minus(n: u32) -> Option<i32>
     i32::try_from(-i64::from(n)).ok()
 }
 
-// Puts the bytes of a word behind others, or tells that it is no such word.
-pub(crate) fn push_hex(bytes: &mut Vec<u8>, word: &[u8]) -> Result<bool, AllocError>
-    ensures { IfOk result (λ read. Adds read bytes.old.items (hex_bytes word.now) bytes.new.items) }
+// Puts the bytes of a word behind others.
+pub(crate) fn push_hex(bytes: &mut Vec<u8>, word: &[u8]) -> Result<(), Unread>
+    ensures { Adds result bytes.old.items (hex_bytes word.now) bytes.new.items }
 {
-    let mut rest = word;
-    while let [high, low, tail @ ..] = rest {
-        let Some(byte) = hex_byte(*high, *low) else {
-            return Ok(false);
-        };
+    let (pairs, rest) = word.as_chunks::<2>();
+    for [high, low] in pairs {
+        let byte = hex_byte(*high, *low).ok_or(Unread::Unreadable)?;
         bytes.push(byte)?;
-        rest = tail;
     }
-    Ok(rest.is_empty())
+    if rest.is_empty() {
+        Ok(())
+    } else {
+        Err(Unread::Unreadable)
+    }
 }

@@ -1,5 +1,7 @@
-ghost use Rattle.std.specs.Prelude.{◌≡◌, ◌≤◌, [], ◌∷◌, length, take, drop, MatchOption};
-ghost use Rattle.script.specs.Words.{uncommented, blank, words_of, unblanked, first_word, behind_word};
+ghost use Rattle.std.specs.Prelude.{◌≡◌, ◌≤◌, length, not, position};
+ghost use Rattle.std.specs.Iterator.{YieldsFirstRef, item_count};
+ghost use Rattle.std.specs.List.{position_or_len};
+ghost use Rattle.script.specs.Words.{uncommented, blank, words_of};
 
 // The words of a text that are not read yet.
 #[derive(Drop)]
@@ -16,30 +18,28 @@ impl<'a> Words<'a> {
             rest: without_comment(line),
         }
     }
+}
 
-    // The next word.
-    pub(crate) fn next(&mut self) -> Option<&'a [u8]>
-        ensures { MatchOption result (words_of self.old.rest.now ≡ []) (λ w. words_of self.old.rest.now ≡ w.now ∷ words_of self.new.rest.now) }
-    {
-        let rest = without_blanks(self.rest);
-        if rest.is_empty() {
-            return None;
-        }
-        let end = word_length(rest);
-        self.rest = &rest[end..];
-        Some(&rest[0..end])
+impl<'a> Iterator for Words<'a> {
+    type Item = &'a [u8];
+
+    ghost next_gives = { YieldsFirstRef (λ s. words_of s.rest.now) };
+
+    ghost remaining = { item_count (λ s. words_of s.rest.now) };
+
+    fn next(&mut self) -> Option<&'a [u8]> {
+        let text = &self.rest[word_start(self.rest)?..];
+        let (word, rest) = text.split_at(word_length(text));
+        self.rest = rest;
+        Some(word)
     }
 }
 
 fn without_comment(line: &[u8]) -> &[u8]
     ensures { result.now ≡ uncommented line.now }
 {
-    for (i, byte) in line.iter().enumerate() {
-        if *byte == b'#' {
-            return &line[0..i];
-        }
-    }
-    line
+    let end = line.iter().position(|byte| *byte == b'#');
+    &line[..end.unwrap_or(line.len())]
 }
 
 fn is_blank(byte: u8) -> bool
@@ -48,27 +48,19 @@ fn is_blank(byte: u8) -> bool
     matches!(byte, b' ' | b'\t' | b'\r')
 }
 
-fn without_blanks(text: &[u8]) -> &[u8]
-    ensures { result.now ≡ unblanked text.now }
+// Where the first word begins.
+fn word_start(text: &[u8]) -> Option<usize>
+    ensures { result ≡ position (λ c. not (blank c)) text.now }
 {
-    for (i, byte) in text.iter().enumerate() {
-        if !is_blank(*byte) {
-            return &text[i..];
-        }
-    }
-    &[]
+    text.iter().position(|byte| !is_blank(*byte))
 }
 
 // How long the word in front is.
 fn word_length(text: &[u8]) -> usize
     ensures within { result ≤ length text.now }
-    ensures word { take result text.now ≡ first_word text.now }
-    ensures rest { drop result text.now ≡ behind_word text.now }
+    ensures word { result ≡ position_or_len blank text.now }
 {
-    for (i, byte) in text.iter().enumerate() {
-        if is_blank(*byte) {
-            return i;
-        }
-    }
-    text.len()
+    text.iter()
+        .position(|byte| is_blank(*byte))
+        .unwrap_or(text.len())
 }

@@ -1,19 +1,27 @@
-use Rattle.std.proofs.Common.{◌<◌, ◌≤◌, length, vec_items, sym, ◌∙◌, arith, rules}
-use Rattle.std.proofs.lemmas.Bool.{ltb-true, ltb-false}
-use Rattle.script.proofs.Bytes.{byte_more, no_byte, refused, at_end}
+use Rattle.std.proofs.Common.{◌≡◌, ℕ, ◌<◌, ◌/◌, ◌*◌, get_or, drop, length, [], vec_items, sym, ◌∙◌, ap, length-drop, arith}
+use Rattle.std.proofs.lemmas.Bool.{eqb-true, eqb-false}
+use Rattle.std.proofs.lemmas.Result.{err_from_is_err_and}
+use Rattle.script.proofs.Bytes.{byte_more, no_byte, all_read, one_left, unreadable_from_none}
 use Rattle.script.proofs.numbers.push_hex.Goals as goal
 
-pub returns-in_default-hex_byte : goal.returns-in_default-hex_byte
-returns-in_default-hex_byte c =
-    let some : 2 ≤ length c.loop-rest.rest.now = omega (arith, ltb-false) in
-    refused _ _ _ (sym c.loop-rest.invariant ∙ no_byte c.loop-rest.rest.now _ some c.in_default-hex_byte.ensures)
+pub loop-high-preserved : goal.loop-high-preserved
+loop-high-preserved c =
+    let h : c.loop-high.high-index < length c.args.word.now / 2 = omega arith in
+    byte_more c.args.word.now _ _ (get_or c.as_chunks.result.0.now c.loop-high.high-index []) _ c.in_ok-byte.byte _ h (ap (λ l. get_or l c.loop-high.high-index []) c.as_chunks.ensures.front) (sym c.hex_byte.ensures ∙ c.in_ok-byte.ensures.ok_part) c.in_ok-push.ensures.items c.loop-high.invariant
 
-pub loop-rest-preserved : goal.loop-rest-preserved
-loop-rest-preserved c =
-    let some : 2 ≤ length c.loop-rest.rest.now = omega (arith, ltb-false) in
-    byte_more c.loop-rest.rest.now (vec_items c.loop-rest.bytes) (vec_items c.push.new.self) c.in-Some.byte _ some c.in-Some.ensures c.in_ok-push.ensures.items c.loop-rest.invariant
+pub returns-in_err-byte : goal.returns-in_err-byte
+returns-in_err-byte c =
+    let p = err_from_is_err_and c.from_residual.result c.from_residual.ensures.1 in
+    let none = unreadable_from_none _ _ c.in_err-byte.ensures.value in
+    let h : c.loop-high.high-index < length c.args.word.now / 2 = omega arith in
+    rw (p.1, p.2, none.1) (no_byte c.args.word.now (vec_items c.loop-high.bytes) _ _ (get_or c.as_chunks.result.0.now c.loop-high.high-index []) _ _ h (ap (λ l. get_or l c.loop-high.high-index []) c.as_chunks.ensures.front) (sym c.hex_byte.ensures ∙ none.0) c.loop-high.invariant)
 
-pub returns : goal.returns
-returns c =
-    let short : length c.loop-rest.rest.now < 2 = omega (arith, ltb-true) in
-    at_end c.loop-rest.rest.now _ _ _ _ short (search rules) c.loop-rest.invariant
+pub returns-then-is_empty : goal.returns-then-is_empty
+returns-then-is_empty c =
+    let none : length (drop (c.loop-high.high-index * 2) c.args.word.now) ≡ 0 = omega (arith, length-drop {A = ℕ}, eqb-true _ 0 (sym c.if-is_empty.ensures)) in
+    all_read _ _ _ _ none c.loop-high.invariant
+
+pub returns-else-is_empty : goal.returns-else-is_empty
+returns-else-is_empty c =
+    let one : length (drop (c.loop-high.high-index * 2) c.args.word.now) ≡ 1 = omega (arith, length-drop {A = ℕ}, eqb-false _ 0 (sym c.if-is_empty.ensures)) in
+    one_left (vec_items c.loop-high.bytes) _ _ _ _ one c.loop-high.invariant

@@ -1,15 +1,13 @@
-use Rattle.std.proofs.Common.{◌≡◌, ◌-◌, take, sym, ap, ◌∙◌, arith}
-use Rattle.std.proofs.lemmas.Bool.{ne_eqb}
-use Rattle.script.proofs.Cuts.{comment_here, comment_later, comment_never}
+use Rattle.std.proofs.Common.{◌≡◌, ℕ, position, eqb, take, ap, ◌∙◌, arith, rules, tests}
+use Rattle.std.specs.List.{position_or_len}
+use Rattle.std.proofs.lemmas.List.Sums.{prefix_len-le-length}
+use Rattle.std.proofs.lemmas.Iterator.{YieldsList-from_slice}
+use Rattle.std.proofs.lemmas.Iterator.Search.{position_from_yields_List}
+use Rattle.script.proofs.Cuts.{comment_cut}
 use Rattle.script.proofs.words.without_comment.Goals as goal
 
-pub returns-then-byte-eq35 : goal.returns-then-byte-eq35
-returns-then-byte-eq35 c =
-    let z : c.loop-i.i - 0 ≡ c.loop-i.i = omega arith in
-    ap (λ n. take n c.args.line.now) z ∙ sym (comment_here _ _ c.loop-i-test.true c.if-byte-eq35.true) ∙ c.loop-i.invariant
-
-pub loop-i-preserved : goal.loop-i-preserved
-loop-i-preserved c = sym (comment_later _ _ c.loop-i-test.true (ne_eqb _ 35 c.if-byte-eq35.false)) ∙ c.loop-i.invariant
-
 pub returns : goal.returns
-returns c = sym (comment_never _ _ c.loop-i-test.false) ∙ c.loop-i.invariant
+returns c =
+    let found : c.position-end.result ≡ position (λ b. eqb b 35) c.args.line.now = position_from_yields_List (λ b. eqb b 35) _ _ _ c.position-end.ensures.ran (YieldsList-from_slice c.args.line.now (cc)) (λ x b q k. search (rules, tests)) in
+    let n : c.unwrap_or.result ≡ position_or_len (λ b. eqb b 35) c.args.line.now = grind (arith, found, c.unwrap_or.ensures, prefix_len-le-length {X = ℕ}) in
+    ap (λ k. take k c.args.line.now) n ∙ comment_cut c.args.line.now
