@@ -1,12 +1,17 @@
 -- How the words of a text come one by one.
-use Rattle.std.proofs.Common.{◌≡◌, ℕ, ◌+◌, ◌-◌, ◌<◌, ◌≤◌, Bool, true, false, not, cond, eqb, List, [], ◌∷◌, ◌++◌, length, get_or, take, drop, Some, None, position, sym, refl, ap, ◌∙◌, ⊎_elim, append_assoc, append-nil, arith, one-add}
+use Rattle.std.proofs.Common.{◌≡◌, ℕ, ◌+◌, ◌-◌, ◌<◌, ◌≤◌, Bool, true, false, not, cond, eqb, List, [], ◌∷◌, ◌++◌, length, get_or, take, drop, Some, None, Option, position, sym, refl, ap, ◌∙◌, ⊎_elim, append_assoc, append-nil, arith, one-add}
+use Rattle.std.specs.Option.{unwrap_or}
 use Rattle.std.specs.List.{position_or_len}
 use Rattle.std.proofs.lemmas.List.{drop_all, take_rest}
-use Rattle.std.proofs.lemmas.List.Sums.{take_while-cons}
+use Rattle.std.proofs.lemmas.List.Sums.{take_while-cons, prefix_len-le-length}
 use Rattle.std.proofs.lemmas.List.Quantifiers.{position-Some}
 use Rattle.std.proofs.lemmas.Grind.{common_steps}
-use Rattle.std.proofs.lemmas.Bool.{cases_Bool, cond-true, cond-false}
+use Rattle.std.proofs.lemmas.Bool.{not-true, cases_Bool, cond-true, cond-false}
 use Rattle.script.specs.Words.{uncommented, blank, ended, words_after, words_of}
+
+-- the place of the first byte that passes, or the end
+pub first_or_end : (p : ℕ → Bool) (xs : List ℕ) (found : Option ℕ) (n : ℕ) → found ≡ position p xs → n ≡ unwrap_or found (length xs) → n ≡ position_or_len p xs
+first_or_end p xs found n e f = grind (arith, prefix_len-le-length {X = ℕ})
 
 pub comment_cut : (xs : List ℕ) → take (position_or_len (λ c. eqb c 35) xs) xs ≡ uncommented xs
 comment_cut [] = refl
@@ -48,10 +53,6 @@ front_word (c ∷ cs) some bare =
     let whole : position_or_len blank (c ∷ cs) ≡ 1 + n = cond-true (not (blank c)) _ _ (ap not bare) in
     words_split [] (c ∷ cs) ∙ rw (whole, one-add) refl
 
-not_blank : (b : Bool) → not b ≡ true → b ≡ false
-not_blank true e = sym e
-not_blank false e = refl
-
 pub next_word : (xs word rest : List ℕ) (start n : ℕ) → position (λ c. not (blank c)) xs ≡ Some start → n ≡ position_or_len blank (take (length xs - start) (drop start xs)) → word ≡ take n (take (length xs - start) (drop start xs)) → rest ≡ drop n (take (length xs - start) (drop start xs)) → words_of xs ≡ word ∷ words_of rest
 next_word xs word rest start n found long front back =
     let at = position-Some (λ c. not (blank c)) xs start 0 found in
@@ -59,4 +60,4 @@ next_word xs word rest start n found long front back =
     let first : get_or (drop start xs) 0 0 ≡ get_or xs start 0 = grind (arith, common_steps) in
     let some : 0 < length (drop start xs) = grind (arith, common_steps) in
     let from : take (length xs - start) (drop start xs) ≡ drop start xs = take_rest xs start in
-    words_skip xs ∙ ap (λ k. words_of (drop k xs)) (sym here) ∙ front_word (drop start xs) some (ap blank first ∙ not_blank _ at.1) ∙ cc
+    words_skip xs ∙ ap (λ k. words_of (drop k xs)) (sym here) ∙ front_word (drop start xs) some (ap blank first ∙ not-true _ at.1) ∙ cc

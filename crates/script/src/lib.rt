@@ -24,7 +24,7 @@ pub enum Act {
     Close,
 }
 
-// A line as read. One that cannot be read is no error: it is answered like any other, and reading goes on behind it.
+// A line as read. One that cannot be read is answered like any other and does not end the reading, so it is no error: that of `read_line` is want of memory.
 #[derive(Debug, PartialEq, Drop)]
 pub enum Line {
     // no word stands there
