@@ -1,4 +1,3 @@
 pub mod Parts
-pub mod Turns
 pub mod Joins
 pub mod Places

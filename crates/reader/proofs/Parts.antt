@@ -50,7 +50,7 @@ part_ends p q xs (c ∷ cs) h =
     ap (λ rs. rs ++ bytewise (leads s.Exclusive c) (q + 1) cs) (other_reading q c high ∙ ap (map (message q)) w.2) in
     subst (λ rs. put (part p xs) (joined rs) ≡ part p xs ∷ joined rs) (sym e) refl
 
-part_reads : (n p : ℕ) (bs : List ℕ) → 0 < n → n ≤ length bs → AllData bs n → (n < length bs → 0x80 ≤ get_or bs n 0) → reads s.Exclusive p bs ≡ part p (take n bs) ∷ reads s.Exclusive (p + n) (drop n bs)
+pub part_reads : (n p : ℕ) (bs : List ℕ) → 0 < n → n ≤ length bs → AllData bs n → (n < length bs → 0x80 ≤ get_or bs n 0) → reads s.Exclusive p bs ≡ part p (take n bs) ∷ reads s.Exclusive (p + n) (drop n bs)
 part_reads zero p bs some within all stops = absurd (omega arith)
 part_reads (suc n) p [] some within all stops = absurd (omega arith)
 part_reads (suc zero) p (b ∷ bs) some within all stops =
@@ -59,16 +59,8 @@ part_reads (suc (suc n)) p (b ∷ bs) some within all stops =
     part_first p b bs (all 0 (omega arith)) ∙ ap (put (part p (b ∷ []))) (part_reads (suc n) (p + 1) bs (omega arith) (omega arith) (λ j h. all (suc j) (omega arith)) (λ h. stops (omega arith)))
     ∙ ap (λ q. part p (b ∷ take (suc n) bs) ∷ reads s.Exclusive q (drop (suc n) bs)) (omega arith)
 
-part_reaches : (n : ℕ) (bs : List ℕ) → n ≤ length bs → AllData bs n → reaches s.Exclusive bs ≡ reaches s.Exclusive (drop n bs)
+pub part_reaches : (n : ℕ) (bs : List ℕ) → n ≤ length bs → AllData bs n → reaches s.Exclusive bs ≡ reaches s.Exclusive (drop n bs)
 part_reaches zero bs within all = refl
 part_reaches (suc n) [] within all = absurd (omega arith)
 part_reaches (suc n) (b ∷ bs) within all =
     ap (λ st. reaches st bs) (stays b (all 0 (omega arith))) ∙ part_reaches n bs (omega arith) (λ j h. all (suc j) (omega arith))
-
-abbrev Takes : State → State → ℕ → ℕ → List ℕ → Type 0
-Takes st st' n p bs = (reaches st bs ≡ reaches st' (drop n bs)) × (reads st p bs ≡ part p (take n bs) ∷ reads st' (p + n) (drop n bs))
-
--- the run in front is taken whole
-pub part_taken : (st st' : State) (n p : ℕ) (bs : List ℕ) → st ≡ s.Exclusive → st' ≡ s.Exclusive → 0 < n → n ≤ length bs → AllData bs n → (n < length bs → 0x80 ≤ get_or bs n 0) → Takes st st' n p bs
-part_taken st st' n p bs was is low within all stops =
-    subst (λ x. Takes x st' n p bs) (sym was) (subst (λ y. Takes s.Exclusive y n p bs) (sym is) (part_reaches n bs within all, part_reads n p bs low within all stops))

@@ -1,5 +1,6 @@
 -- The ranges of the numbers in states and messages.
 use Rattle.std.specs.Prelude.{◌<◌, ◌≤◌, Bool, true, false, ◌&&◌, pos, negsuc, ◌≤ℤ◌, Some, None, Option, nat_le, nat_lt}
+use Rattle.std.proofs.Props.{props}
 use Rattle.reader.specs.declared.items.Item.{Item}
 use Rattle.reader.specs.declared.items.Item.TheVariants as i
 use Rattle.reader.specs.declared.items.Message.{Message}
@@ -35,6 +36,27 @@ Ranged m.Stray = Unit {0}
 Ranged m.Cut = Unit {0}
 Ranged m.ExclusiveBegun = Unit {0}
 Ranged (m.ExclusiveEnded w) = Unit {0}
+
+-- they do so in one way only, as a ghost field wants
+pub Ranged-prop : (x : Message) → IsProp (Ranged x)
+Ranged-prop (m.NoteOff c k v) = Prim.hlevel props
+Ranged-prop (m.NoteOn c k v) = Prim.hlevel props
+Ranged-prop (m.KeyPressure c k v) = Prim.hlevel props
+Ranged-prop (m.Control c n v) = Prim.hlevel props
+Ranged-prop (m.Program c v) = Prim.hlevel props
+Ranged-prop (m.ChannelPressure c v) = Prim.hlevel props
+Ranged-prop (m.Bend c v) = Prim.hlevel props
+Ranged-prop (m.QuarterFrame v) = Prim.hlevel props
+Ranged-prop (m.SongPosition v) = Prim.hlevel props
+Ranged-prop (m.SongSelect v) = Prim.hlevel props
+Ranged-prop m.TuneRequest = Prim.hlevel props
+Ranged-prop (m.RealTime b) = Prim.hlevel props
+Ranged-prop m.Reset = Prim.hlevel props
+Ranged-prop m.Undefined = Prim.hlevel props
+Ranged-prop m.Stray = Prim.hlevel props
+Ranged-prop m.Cut = Prim.hlevel props
+Ranged-prop m.ExclusiveBegun = Prim.hlevel props
+Ranged-prop (m.ExclusiveEnded w) = Prim.hlevel props
 
 abbrev pub InRange : Option Item → Type 0
 InRange None = Unit {0}

@@ -13,6 +13,7 @@ pub mod pieces;
 mod readers;
 mod reading;
 pub mod states;
+mod steps;
 pub mod theorems;
 
 // A reader is the state between two bytes, which lasts from piece to piece.

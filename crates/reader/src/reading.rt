@@ -1,31 +1,14 @@
-ghost use Rattle.std.specs.Prelude.{◌≡◌, ◌+◌, ◌<◌, ◌≤◌, true, false, ◌∷◌, ◌++◌, length, drop, None, slice_index};
-ghost use Rattle.std.specs.List.{AllByRecursion};
+ghost use Rattle.std.specs.Prelude.{◌≡◌, ◌+◌, ◌<◌, ◌≤◌, true, ◌++◌, length, drop, is_none, None, IfSome, slice_index};
 ghost use Rattle.reader.specs.Rules.{belongs, filled, fills, gives, leads, note_on_of, opened, opens, paired, reads, reaches};
-ghost use Rattle.reader.specs.Ranges.{Ranged, InRange, numberless};
+ghost use Rattle.reader.specs.Ranges.{Ranged, InRange, bare, numberless};
 ghost use Rattle.reader.specs.Ahead.{listed, Next};
-ghost use Rattle.reader.specs.Steps.{given, is_part, optional, all_bare, bare_second, handed, AllData};
+ghost use Rattle.reader.specs.Steps.{given, optional, handed, AllData};
 
 use crate::Reader;
 use crate::items::{Item, Message};
 use crate::pieces::Piece;
 use crate::states::{Class, State};
-
-// What one byte gives.
-#[derive(Clone, Copy)]
-enum Given {
-    Nothing,
-    PartByte,
-    One(Message),
-    Two(Message, Message),
-}
-
-// What one byte gave, or a run of an exclusive's data bytes, and how many bytes that were.
-#[derive(Clone, Copy)]
-struct Taken<'p> {
-    first: Option<Item<'p>>,
-    second: Option<Item<'p>>,
-    count: usize,
-}
+use crate::steps::{DataByte, Given, Taken};
 
 impl Reader {
     // Hands out the next item of a piece, or none where the piece is read whole.
@@ -33,8 +16,7 @@ impl Reader {
         ensures next { Next self.old.state piece.old result self.new.state piece.new }
         ensures ranged { InRange result }
     {
-        if let Some(item) = piece.pending {
-            piece.pending = None;
+        if let Some(item) = piece.pending.take() {
             return Some(item);
         }
         while !piece.rest.is_empty() {
@@ -60,154 +42,139 @@ impl Reader {
         ensures state { reaches self.old.state rest.now ≡ reaches self.new.state (drop result.count rest.now) }
         ensures items { reads self.old.state place rest.now ≡ handed result ++ reads self.new.state (place + result.count) (drop result.count rest.now) }
     {
-        match self.step(rest[0]) {
-            Given::Nothing => Taken {
-                first: None,
+        let Some(given) = self.step(rest[0]) else {
+            let count = self.part_length(rest);
+            let bytes = &rest[0..count];
+            return Taken {
+                first: Some(Item::Part { place, bytes }),
                 second: None,
-                count: 1,
-            },
-            Given::One(message) => Taken {
-                first: Some(Item::Message { place, message }),
-                second: None,
-                count: 1,
-            },
-            Given::Two(before, message) => Taken {
-                first: Some(Item::Message {
-                    place,
-                    message: before,
-                }),
-                second: Some(Item::Message { place, message }),
-                count: 1,
-            },
-            Given::PartByte => {
-                let count = self.part_length(rest);
-                let bytes = &rest[0..count];
-                Taken {
-                    first: Some(Item::Part { place, bytes }),
-                    second: None,
-                    count,
-                }
-            }
+                count,
+            };
+        };
+        Taken {
+            first: given.first.map(|message| Item::Message { place, message }),
+            second: given.second.map(|message| Item::Message { place, message }),
+            count: 1,
         }
     }
 
-    // Reads one byte.
-    fn step(&mut self, byte: u8) -> Given
+    // Reads one byte, and answers its messages, or none where it is a data byte of an exclusive,
+    // which belongs to a part.
+    fn step(&mut self, byte: u8) -> Option<Given>
         ensures state { self.new.state ≡ leads self.old.state byte }
-        ensures part { is_part result ≡ belongs self.old.state byte }
-        ensures items { given result ≡ gives self.old.state byte }
-        ensures ranged { AllByRecursion Ranged (given result) }
-        ensures bare { bare_second result ≡ true }
+        ensures part { is_none result ≡ belongs self.old.state byte }
+        ensures items { IfSome result (λ g. given g ≡ gives self.old.state byte) }
     {
         match (self.state, Class::of(byte)) {
             (_, Class::Reset) => {
                 self.state = State::Idle;
-                Given::One(Message::Reset)
+                Some(Given::one(Message::Reset))
             }
-            (_, Class::Undefined) => Given::One(Message::Undefined),
-            (_, Class::RealTime) => Given::One(Message::RealTime { byte }),
-            (State::Idle, Class::Data) => Given::One(Message::Stray),
-            (State::Channel { status }, Class::Data) => self.channel_data(status, byte),
-            (State::Half { status, first }, Class::Data) => self.half_data(status, first, byte),
-            (State::Common { status }, Class::Data) => self.common_data(status, byte),
-            (State::Exclusive, Class::Data) => Given::PartByte,
+            (_, Class::Undefined) => Some(Given::one(Message::Undefined)),
+            (_, Class::RealTime) => Some(Given::one(Message::RealTime { byte })),
+            (State::Idle, Class::Data) => Some(Given::one(Message::Stray)),
+            (State::Channel { status }, Class::Data) => Some(self.channel_data(
+                status,
+                DataByte { value: byte },
+            )),
+            (State::Half { status, first }, Class::Data) => Some(self.half_data(
+                status,
+                first,
+                DataByte { value: byte },
+            )),
+            (State::Common { status }, Class::Data) => Some(self.common_data(
+                status,
+                DataByte { value: byte },
+            )),
+            (State::Exclusive, Class::Data) => None,
             (State::Exclusive, Class::ExclusiveEnd) => {
                 self.state = State::Idle;
-                Given::One(Message::ExclusiveEnded { whole: true })
+                Some(Given::one(Message::ExclusiveEnded { whole: true }))
             }
             (State::Half { .. }, Class::ExclusiveEnd) => {
                 self.state = State::Idle;
-                Given::Two(Message::Cut, Message::Stray)
+                Some(Given::two(Message::Cut, Some(Message::Stray)))
             }
             (_, Class::ExclusiveEnd) => {
                 self.state = State::Idle;
-                Given::One(Message::Stray)
+                Some(Given::one(Message::Stray))
             }
             (State::Exclusive, Class::Status) => {
                 self.state = opens_state(byte);
-                then(
+                Some(Given::two(
                     Message::ExclusiveEnded { whole: false },
                     opens_message(byte),
-                )
+                ))
             }
             (State::Half { .. }, Class::Status) => {
                 self.state = opens_state(byte);
-                then(Message::Cut, opens_message(byte))
+                Some(Given::two(Message::Cut, opens_message(byte)))
             }
             (_, Class::Status) => {
                 self.state = opens_state(byte);
-                perhaps(opens_message(byte))
+                Some(Given {
+                    first: opens_message(byte),
+                    second: None,
+                })
             }
         }
     }
 
     // A data byte under a channel's status.
-    fn channel_data(&mut self, status: u8, byte: u8) -> Given
+    fn channel_data(&mut self, status: u8, byte: DataByte) -> Given
         requires stands { self.old.state ≡ State.Channel status }
-        requires data { byte < 0x80 }
-        ensures state { self.new.state ≡ fills (State.Channel status) byte }
-        ensures items { given result ≡ filled (State.Channel status) byte }
-        ensures part { is_part result ≡ false }
-        ensures ranged { AllByRecursion Ranged (given result) }
-        ensures bare { bare_second result ≡ true }
+        ensures state { self.new.state ≡ fills (State.Channel status) byte.value }
+        ensures items { given result ≡ filled (State.Channel status) byte.value }
     {
         match status {
-            0xC0..=0xCF => Given::One(Message::Program {
+            0xC0..=0xCF => Given::one(Message::Program {
                 channel: status % 16,
-                program: byte,
+                program: byte.value,
             }),
-            0xD0..=0xDF => Given::One(Message::ChannelPressure {
+            0xD0..=0xDF => Given::one(Message::ChannelPressure {
                 channel: status % 16,
-                pressure: byte,
+                pressure: byte.value,
             }),
             _ => {
                 self.state = State::Half {
                     status,
-                    first: byte,
+                    first: byte.value,
                 };
-                Given::Nothing
+                Given::none()
             }
         }
     }
 
     // The second of two data bytes.
-    fn half_data(&mut self, status: u8, first: u8, byte: u8) -> Given
+    fn half_data(&mut self, status: u8, first: u8, byte: DataByte) -> Given
         requires stands { self.old.state ≡ State.Half status first }
-        requires data { byte < 0x80 }
-        ensures state { self.new.state ≡ fills (State.Half status first) byte }
-        ensures items { given result ≡ filled (State.Half status first) byte }
-        ensures part { is_part result ≡ false }
-        ensures ranged { AllByRecursion Ranged (given result) }
-        ensures bare { bare_second result ≡ true }
+        ensures state { self.new.state ≡ fills (State.Half status first) byte.value }
+        ensures items { given result ≡ filled (State.Half status first) byte.value }
     {
         self.state = if status < 0xF0 {
             State::Channel { status }
         } else {
             State::Idle
         };
-        Given::One(pair(status, first, byte))
+        Given::one(pair(status, DataByte { value: first }, byte))
     }
 
     // A data byte after F1h, F2h or F3h.
-    fn common_data(&mut self, status: u8, byte: u8) -> Given
+    fn common_data(&mut self, status: u8, byte: DataByte) -> Given
         requires stands { self.old.state ≡ State.Common status }
-        requires data { byte < 0x80 }
-        ensures state { self.new.state ≡ fills (State.Common status) byte }
-        ensures items { given result ≡ filled (State.Common status) byte }
-        ensures part { is_part result ≡ false }
-        ensures ranged { AllByRecursion Ranged (given result) }
-        ensures bare { bare_second result ≡ true }
+        ensures state { self.new.state ≡ fills (State.Common status) byte.value }
+        ensures items { given result ≡ filled (State.Common status) byte.value }
     {
         self.state = State::Idle;
         match status {
-            0xF1 => Given::One(Message::QuarterFrame { value: byte }),
-            0xF3 => Given::One(Message::SongSelect { song: byte }),
+            0xF1 => Given::one(Message::QuarterFrame { value: byte.value }),
+            0xF3 => Given::one(Message::SongSelect { song: byte.value }),
             _ => {
                 self.state = State::Half {
                     status,
-                    first: byte,
+                    first: byte.value,
                 };
-                Given::Nothing
+                Given::none()
             }
         }
     }
@@ -224,69 +191,66 @@ impl Reader {
         ensures all { AllData rest.now result }
         ensures stops { result < length rest.now → 0x80 ≤ slice_index rest.now result }
     {
-        let mut count = 1;
-        while count < rest.len() && rest[count] < 0x80 {
-            let _ = self.step(rest[count]);
-            count += 1;
+        for (index, byte) in rest[1..].iter().enumerate() {
+            if *byte >= 0x80 {
+                return index + 1;
+            }
+            let _ = self.step(*byte);
         }
-        count
+        rest.len()
     }
 }
 
 // The message of a status with two data bytes.
-fn pair(status: u8, first: u8, second: u8) -> Message
+fn pair(status: u8, first: DataByte, second: DataByte) -> Message
     requires status { 0x80 ≤ status }
-    requires first { first < 0x80 }
-    requires second { second < 0x80 }
-    ensures value { result ≡ paired status first second }
+    ensures value { result ≡ paired status first.value second.value }
     ensures ranged { Ranged result }
 {
     let channel = status % 16;
     match status {
         0x00..=0x8F => Message::NoteOff {
             channel,
-            key: first,
-            velocity: second,
+            key: first.value,
+            velocity: second.value,
         },
         0x90..=0x9F => note_on(channel, first, second),
         0xA0..=0xAF => Message::KeyPressure {
             channel,
-            key: first,
-            pressure: second,
+            key: first.value,
+            pressure: second.value,
         },
         0xB0..=0xBF => Message::Control {
             channel,
-            controller: first,
-            value: second,
+            controller: first.value,
+            value: second.value,
         },
         0xC0..=0xEF => Message::Bend {
             channel,
-            bend: 128 * second as i16 - 8192 + first as i16,
+            bend: 128 * i16::from(second.value) - 8192 + i16::from(first.value),
         },
         _ => Message::SongPosition {
-            position: first as u16 + 128 * second as u16,
+            position: u16::from(first.value) + 128 * u16::from(second.value),
         },
     }
 }
 
 // A Note-on, or at velocity 0 the Note-off that it stands for.
-fn note_on(channel: u8, key: u8, velocity: u8) -> Message
-    requires channel { channel < 16 }
-    requires key { key < 0x80 }
-    requires velocity { velocity < 0x80 }
-    ensures value { result ≡ note_on_of channel key velocity }
+fn note_on(channel: u8, key: DataByte, velocity: DataByte) -> Message
+    requires { channel < 16 }
+    ensures value { result ≡ note_on_of channel key.value velocity.value }
     ensures ranged { Ranged result }
 {
-    match velocity {
+    match velocity.value {
         0 => Message::NoteOff {
             channel,
-            key,
+            key: key.value,
             velocity: 64,
         },
         _ => Message::NoteOn {
             channel,
-            key,
-            velocity,
+            key: key.value,
+            velocity: velocity.value,
         },
     }
 }
@@ -306,7 +270,7 @@ fn opens_state(byte: u8) -> State
 // What a byte 80h to F6h gives in Idle.
 fn opens_message(byte: u8) -> Option<Message>
     ensures items { optional result ≡ opened byte }
-    ensures bare { all_bare (optional result) ≡ true }
+    ensures bare { IfSome result (λ x. bare x ≡ true) }
 {
     match byte {
         0x00..=0xEF => None,
@@ -314,34 +278,5 @@ fn opens_message(byte: u8) -> Option<Message>
         0xF1..=0xF3 => None,
         0xF4 | 0xF5 => Some(Message::Undefined),
         _ => Some(Message::TuneRequest),
-    }
-}
-
-// A message, and then perhaps another.
-fn then(first: Message, second: Option<Message>) -> Given
-    requires first { Ranged first }
-    requires second { all_bare (optional second) ≡ true }
-    ensures items { given result ≡ first ∷ optional second }
-    ensures part { is_part result ≡ false }
-    ensures ranged { AllByRecursion Ranged (given result) }
-    ensures bare { bare_second result ≡ true }
-{
-    match second {
-        Some(message) => Given::Two(first, message),
-        None => Given::One(first),
-    }
-}
-
-// A message, or none.
-fn perhaps(message: Option<Message>) -> Given
-    requires bare { all_bare (optional message) ≡ true }
-    ensures items { given result ≡ optional message }
-    ensures part { is_part result ≡ false }
-    ensures ranged { AllByRecursion Ranged (given result) }
-    ensures bare { bare_second result ≡ true }
-{
-    match message {
-        Some(message) => Given::One(message),
-        None => Given::Nothing,
     }
 }

@@ -22,12 +22,10 @@ impl<'p> Piece<'p> {
     pub fn number_from(&mut self, first: u64) -> Result<(), PlaceOverflow>
         ensures { Numbered self.old first result self.new }
     {
-        match first.checked_add(self.rest.len() as u64) {
-            Some(_) => {
-                self.place = first;
-                Ok(())
-            }
-            None => Err(PlaceOverflow),
-        }
+        first
+            .checked_add(self.rest.len() as u64)
+            .ok_or(PlaceOverflow)?;
+        self.place = first;
+        Ok(())
     }
 }

@@ -3,7 +3,7 @@ use Rattle.reader.specs.Ahead.{ahead, ending}
 use Rattle.reader.proofs.Reader.next.Given as goal
 
 abbrev pub invariant-loop-self : goal.invariant-loop-self
-invariant-loop-self l = (l.piece.pending ≡ None) × (ahead l.self.state l.piece ≡ ahead l.initial.self.state l.initial.piece) × (ending l.self.state l.piece ≡ ending l.initial.self.state l.initial.piece) × (length l.piece.rest.now ≤ length l.initial.piece.rest.now)
+invariant-loop-self l = (l.piece.pending ≡ None) × (ahead l.self.state l.piece ≡ ahead l.fn.self.state l.fn.piece) × (ending l.self.state l.piece ≡ ending l.fn.self.state l.fn.piece) × (length l.piece.rest.now ≤ length l.fn.piece.rest.now)
 
 abbrev pub decreases-loop-self : goal.decreases-loop-self
 decreases-loop-self l = length l.piece.rest.now

@@ -1,12 +1,16 @@
-use Rattle.std.proofs.Common.{sym, refl}
+use Rattle.std.proofs.Common.{sym}
 use native.Mathlib.Numerals.{unary_clauses}
-use Rattle.reader.proofs.Parts.{in_exclusive, part_taken}
+use Rattle.reader.proofs.Parts.{in_exclusive, part_reaches, part_reads}
 use Rattle.reader.proofs.Reader.take.Goals as goal
 
-pub returns-in-PartByte : goal.returns-in-PartByte
-returns-in-PartByte c =
-    let told = c.in-PartByte.ensures in
+pub returns-in_default-clause-state : goal.returns-in_default-clause-state
+returns-in_default-clause-state c =
+    let was = in_exclusive c.args.self.now.state _ (sym c.in_default.ensures.part) in
     let run = c.part_length-count.ensures in
-    let was = in_exclusive c.args.self.now.state _ (sym told.part) in
-    let all = part_taken c.args.self.now.state c.part_length-count.new.self.state c.part_length-count.result c.args.place c.args.rest.now was.0 run.state run.low run.high run.all run.stops in
-    record { order = λ _. refl; ranged = tt; bare = refl; low = run.low; high = run.high; state = all.0; items = simp unary_clauses all.1 }
+    cc (was.0, run.state, part_reaches c.part_length-count.result c.args.rest.now run.high run.all)
+
+pub returns-in_default-clause-items : goal.returns-in_default-clause-items
+returns-in_default-clause-items c =
+    let was = in_exclusive c.args.self.now.state _ (sym c.in_default.ensures.part) in
+    let run = c.part_length-count.ensures in
+    simp unary_clauses (cc (was.0, run.state, part_reads c.part_length-count.result c.args.place c.args.rest.now run.low run.high run.all run.stops))
