@@ -1,2 +1,1 @@
-mod Hexes
-mod Texts
+pub mod Hexes

@@ -1,6 +1,9 @@
-ghost use Rattle.std.specs.Prelude.{Some, codes};
+ghost use Rattle.std.specs.Prelude.{◌≡◌, Some, codes};
+ghost use Rattle.listing.specs.declared.errors.ListError.TheVariants.{Memory, Places};
 ghost use Rattle.listing.specs.Errors.{error_text};
 
+use reader::PlaceOverflow;
+use std::alloc::AllocError;
 use std::error::Error;
 use std::fmt;
 
@@ -25,3 +28,19 @@ impl fmt::Display for ListError {
 }
 
 impl Error for ListError {}
+
+impl From<AllocError> for ListError {
+    ghost from_gives = { λ _ e. e ≡ Memory };
+
+    fn from(_error: AllocError) -> ListError {
+        ListError::Memory
+    }
+}
+
+impl From<PlaceOverflow> for ListError {
+    ghost from_gives = { λ _ e. e ≡ Places };
+
+    fn from(_error: PlaceOverflow) -> ListError {
+        ListError::Places
+    }
+}

@@ -10,8 +10,7 @@ ghost use Rattle.listing.specs.Listings.{Lists};
 pub use errors::ListError;
 pub use lines::{Described, Line};
 use reader::{Piece, Reader};
-use std::alloc::Global;
-use std::fmt;
+use std::alloc::{AllocError, Global};
 
 pub mod errors;
 pub mod lines;
@@ -40,12 +39,8 @@ impl Listing {
     {
         let mut reader = self.reader;
         let mut piece = Piece::new(bytes);
-        if piece.number_from(self.place).is_err() {
-            return Err(ListError::Places);
-        }
-        let Ok(text) = text(heap, &mut reader, &mut piece) else {
-            return Err(ListError::Memory);
-        };
+        piece.number_from(self.place)?;
+        let text = text(heap, &mut reader, &mut piece)?;
         self.reader = reader;
         self.place += bytes.len() as u64;
         Ok(text)
@@ -53,14 +48,13 @@ impl Listing {
 }
 
 // The lines of all that a piece still holds for a reader.
-fn text(heap: Global, reader: &mut Reader, piece: &mut Piece) -> Result<String, fmt::Error>
+fn text(heap: Global, reader: &mut Reader, piece: &mut Piece) -> Result<String, AllocError>
     ensures text { IfOk result (λ t. string_bytes t ≡ text_of (ahead reader.old.state piece.old)) }
     ensures state { OnOk result (reader.new.state ≡ ending reader.old.state piece.old) }
 {
     let mut text = String::new(heap);
     while let Some(item) = reader.next(piece) {
-        let line = Line(item);
-        writeln!(text, "{line}")?;
+        writeln!(text, "{}", Line(item))?;
     }
     Ok(text)
 }

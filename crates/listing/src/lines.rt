@@ -1,6 +1,5 @@
 // The line of text that stands for an item.
-ghost use Rattle.std.specs.Prelude.{◌≡◌, ◌<◌, true, if◌then◌else◌, Some, codes};
-ghost use Rattle.std.specs.Fmt.{digit_glyph};
+ghost use Rattle.std.specs.Prelude.{Some};
 ghost use Rattle.reader.specs.Ahead.{read_as};
 ghost use Rattle.listing.specs.Lines.{message_text, hex_text, line_text_of};
 
@@ -52,19 +51,10 @@ impl fmt::Display for Described {
             Message::Stray => write!(f, "Stray"),
             Message::Cut => write!(f, "Cut"),
             Message::ExclusiveBegun => write!(f, "Exclusive-begun"),
-            Message::ExclusiveEnded { whole } => {
-                let end = wholeness(whole);
-                write!(f, "Exclusive-ended {end}")
-            }
+            Message::ExclusiveEnded { whole: true } => write!(f, "Exclusive-ended whole"),
+            Message::ExclusiveEnded { whole: false } => write!(f, "Exclusive-ended not-whole"),
         }
     }
-}
-
-// How an exclusive ended.
-fn wholeness(whole: bool) -> &'static str
-    ensures { result.now ≡ (if whole then codes "whole" else codes "not-whole") }
-{
-    if whole { "whole" } else { "not-whole" }
 }
 
 // An item as a line of text, without the line's end: its place, its kind and its fields.
@@ -75,15 +65,9 @@ impl<'p> fmt::Display for Line<'p> {
     ghost output = { λ l. Some (line_text_of (read_as l.0)) };
 
     fn fmt<W: fmt::Write>(&self, f: &mut fmt::Formatter<W>) -> fmt::Result {
-        match &self.0 {
-            Item::Message { place, message } => {
-                let text = Described(*message);
-                write!(f, "{place} {text}")
-            }
-            Item::Part { place, bytes } => {
-                let text = Hex(*bytes);
-                write!(f, "{place} Exclusive-part {text}")
-            }
+        match self.0 {
+            Item::Message { place, message } => write!(f, "{place} {}", Described(message)),
+            Item::Part { place, bytes } => write!(f, "{place} Exclusive-part {}", Hex(bytes)),
         }
     }
 }
@@ -95,24 +79,11 @@ struct Hex<'p>(&'p [u8]);
 impl<'p> fmt::Display for Hex<'p> {
     ghost output = { λ h. Some (hex_text h.0.now) };
 
+    #[tactic(auto, using(crate::proofs::Hexes::hex_steps))]
     fn fmt<W: fmt::Write>(&self, f: &mut fmt::Formatter<W>) -> fmt::Result {
-        for byte in self.0 {
-            f.write_char(hex_digit(*byte / 16))?;
-            f.write_char(hex_digit(*byte % 16))?;
+        for &byte in self.0 {
+            write!(f, "{byte:02X}")?;
         }
         Ok(())
-    }
-}
-
-// The upper-case hexadecimal digit of a number below 16.
-fn hex_digit(n: u8) -> char
-    requires { n < 16 }
-    ensures value { result ≡ digit_glyph true n }
-    ensures ascii { result < 128 }
-{
-    if n < 10 {
-        char::from(b'0' + n)
-    } else {
-        char::from(b'A' - 10 + n)
     }
 }

@@ -8,6 +8,7 @@ fn main(rt: HostRuntime) -> anyhow::Result<()> {
     let mut input = rt.stdin();
     let mut buffer = [0u8; 4096];
     let mut listing = Listing::new();
+    // A loop must be proved to end, and standard input may never end.
     for _ in 0..u64::MAX {
         let count = input.read(&mut buffer)?;
         if count == 0 {
