@@ -14,7 +14,7 @@ fn main(rt: HostRuntime) -> anyhow::Result<()> {
         if count == 0 {
             break;
         }
-        let text = listing.list(rt.alloc(), &buffer[0..count])?;
+        let text = listing.list(rt.alloc(), &buffer[..count])?;
         rt.print(text.as_str())?;
     }
     Ok(())

@@ -4,7 +4,6 @@ use Rattle.std.proofs.lemmas.Bool.Decides.{nat_tests}
 use Rattle.reader.specs.declared.items.Message.{Message}
 use Rattle.reader.specs.declared.items.Message.TheVariants as m
 use Rattle.reader.specs.declared.states.State.{State}
-use Rattle.reader.specs.declared.states.State.TheVariants as s
 use Rattle.reader.specs.Rules.{Reading, message, part, put, joined, belongs, reading, bytewise, gives, leads, reads, reaches}
 use Rattle.reader.specs.Laws.{reads_each, concat, if_note_on, note_ons_of, later, TwoPiecesJoin, PiecesJoin, NoteOnsJoin, RealTimeApart}
 
@@ -147,11 +146,7 @@ unfolding real_time
 real_time_alone st b low high = grind (arith, nat_tests)
 
 not_belongs : (st : State) (b : ℕ) → 0xF8 ≤ b → belongs st b ≡ false
-not_belongs s.Idle b low = refl
-not_belongs (s.Channel x) b low = refl
-not_belongs (s.Half x d) b low = refl
-not_belongs (s.Common x) b low = refl
-not_belongs s.Exclusive b low = grind (arith, nat_tests)
+not_belongs st b low = grind (arith, nat_tests)
 
 pub real_time_apart : RealTimeApart
 real_time_apart st p xs ys b low high =

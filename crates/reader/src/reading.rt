@@ -32,6 +32,7 @@ impl Reader {
     }
 
     // Reads the byte in front, or the run there of an exclusive's data bytes.
+    #[tactic(auto, using(crate::proofs::Parts::parts))]
     fn take<'p>(&mut self, place: u64, rest: &'p [u8]) -> Taken<'p>
         requires some { 0 < length rest.now }
         ensures order { result.first ≡ None → result.second ≡ None }
@@ -44,7 +45,7 @@ impl Reader {
     {
         let Some(given) = self.step(rest[0]) else {
             let count = self.part_length(rest);
-            let bytes = &rest[0..count];
+            let bytes = &rest[..count];
             return Taken {
                 first: Some(Item::Part { place, bytes }),
                 second: None,
