@@ -14,9 +14,8 @@ states_join st (b ∷ xs) ys = states_join (leads st b) xs ys
 bytewise_join : (st : State) (p : ℕ) (xs ys : List ℕ) → bytewise st p (xs ++ ys) ≡ bytewise st p xs ++ bytewise (reaches st xs) (p + length xs) ys
 bytewise_join st p [] ys = ap (λ q. bytewise st q ys) (omega arith)
 bytewise_join st p (b ∷ xs) ys =
-    ap (λ rs. reading st p b ++ rs) (bytewise_join (leads st b) (p + 1) xs ys)
-    ∙ sym (append_assoc (reading st p b) _ _)
-    ∙ ap (λ q. (reading st p b ++ bytewise (leads st b) (p + 1) xs) ++ bytewise (reaches (leads st b) xs) q ys) (omega arith)
+    let place : (p + 1) + length xs ≡ p + length (b ∷ xs) = omega arith in
+    rw (bytewise_join (leads st b) (p + 1) xs ys, place) (sym (append_assoc (reading st p b) _ _))
 
 -- ---- joining parts
 
@@ -36,7 +35,7 @@ joined_front [] ts = refl
 joined_front (r ∷ rs) ts = joined_put r (joined rs) ts ∙ ap (put r) (joined_front rs ts)
 
 joined_twice : (rs : List Reading) → joined (joined rs) ≡ joined rs
-joined_twice rs = ap joined (sym (append-nil (joined rs))) ∙ joined_front rs [] ∙ ap joined (append-nil rs)
+joined_twice rs = simp append-nil at (joined_front rs [])
 
 joined_back : (rs ts : List Reading) → joined (rs ++ joined ts) ≡ joined (rs ++ ts)
 joined_back [] ts = joined_twice ts

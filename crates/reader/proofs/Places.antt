@@ -1,5 +1,5 @@
 -- Places never fall, and lie within the piece.
-use Rattle.std.proofs.Common.{◌≡◌, ℕ, ◌+◌, ◌<◌, ◌≤◌, Bool, true, false, cond, List, [], ◌∷◌, ◌++◌, map, length, subst, arith}
+use Rattle.std.proofs.Common.{◌≡◌, ℕ, ◌+◌, ◌<◌, ◌≤◌, Bool, true, false, cond, List, [], ◌∷◌, ◌++◌, map, length, arith}
 use Rattle.reader.specs.declared.items.Message.{Message}
 use Rattle.reader.specs.declared.states.State.{State}
 use Rattle.reader.specs.Rules.{Reading, message, part, put, joined, belongs, bytewise, gives, leads}
@@ -20,10 +20,9 @@ rising_reading false p b hi xs rs lt h = rising_messages p hi xs rs lt h
 rising_bytewise : (st : State) (p : ℕ) (bs : List ℕ) → Rising p (p + length bs) (bytewise st p bs)
 rising_bytewise st p [] = tt
 rising_bytewise st p (b ∷ bs) =
-    let on = rising_bytewise (leads st b) (p + 1) bs in
     let same : (p + 1) + length bs ≡ p + length (b ∷ bs) = omega arith in
-    let rest : Rising (p + 1) (p + length (b ∷ bs)) (bytewise (leads st b) (p + 1) bs) = subst (λ hi. Rising (p + 1) hi (bytewise (leads st b) (p + 1) bs)) same on in
-    rising_reading (belongs st b) p b (p + length (b ∷ bs)) (gives st b) (bytewise (leads st b) (p + 1) bs) (omega arith) (rising_from (p + 1) p (p + length (b ∷ bs)) (bytewise (leads st b) (p + 1) bs) (omega arith) rest)
+    let rest = rw same at (rising_bytewise (leads st b) (p + 1) bs) in
+    rising_reading (belongs st b) p b _ (gives st b) _ (omega arith) (rising_from (p + 1) p _ _ (omega arith) rest)
 
 rising_put : (lo hi : ℕ) (r : Reading) (rs : List Reading) → lo ≤ place_of r → place_of r < hi → Rising (place_of r) hi rs → Rising lo hi (put r rs)
 rising_put lo hi (message p x) rs low high h = (low, high, h)
