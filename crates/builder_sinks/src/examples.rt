@@ -3,6 +3,7 @@ ghost use Rattle.sink.specs.declared.fault.Cause.TheVariants.{NoSpace};
 ghost use Rattle.transposer.specs.Shift.{in_range, Folds};
 ghost use Rattle.builder_sinks.specs.Examples.{Folding};
 
+use sink::calls::NoteOn;
 use sink::fault::Cause;
 use sink::sink::Sink;
 use transposer::shift::Shift;
@@ -14,11 +15,16 @@ pub fn folded(semitones: i32, key: u8) -> Option<u8>
     ensures key { MatchOption result (in_range semitones ≡ false) (λ k. (in_range semitones ≡ true) × Folds (pos key +ℤ semitones) k) }
     ensures worked { Folding }
 {
-    match Shift::of(semitones) {
-        Some(shift) => Some(shift.moved(key)),
-        None => None,
-    }
+    let shift = Shift::try_from(semitones).ok()?;
+    Some(shift.moved(key))
 }
+
+// The note of the examples' start.
+const FIRST: NoteOn = NoteOn {
+    channel: 0,
+    key: 60,
+    velocity: 100,
+};
 
 // What a log answers to a first start.
 pub fn first_start(lines: Vec<Line>) -> Result<u16, Cause>
@@ -26,7 +32,7 @@ pub fn first_start(lines: Vec<Line>) -> Result<u16, Cause>
     ensures enough { 2 ≤ vec_len lines → result ≡ Ok 0 }
 {
     let mut log = VoiceLog::new(lines);
-    log.start(0, 0, 60, 100)
+    log.start(0, FIRST)
 }
 
 // Whether a log is ready again after its first start.
@@ -35,6 +41,6 @@ pub fn second_start(lines: Vec<Line>) -> Result<(), Cause>
     ensures enough { 4 ≤ vec_len lines → result ≡ Ok tt }
 {
     let mut log = VoiceLog::new(lines);
-    let _ = log.start(0, 0, 60, 100);
+    let _ = log.start(0, FIRST);
     log.ready()
 }

@@ -14,6 +14,7 @@ use Rattle.roll.specs.Voices.{one, voice, passes, sounding_with, tally}
 use Rattle.roll.specs.declared.note.Note.{Note}
 use Rattle.roll.proofs.Tallies.{one_le, at_set, with_one, with_some, with_stop, with_set, with_none}
 use Rattle.ends.specs.Ending.{new_note, check_of, IfReady, IfOwed, Same}
+use Rattle.ends.proofs.Buffers.{within}
 use Rattle.ends.proofs.Tickets.{new_order}
 use Rattle.byte_writer.specs.Keys.{is_key, silenced}
 use Rattle.byte_writer.specs.Laws.{Sounds, Heard, MessagesReadBack, says, CallsReadBack, New, SinceNew, made, called, ReadBack, AllReadBack, Takes, SixBytesAStart, FirstStarts}
@@ -29,7 +30,7 @@ use Rattle.byte_writer.specs.Agree.{quieter, silenced_long, none_agree}
 use Rattle.byte_writer.specs.Law.{writer_law, new_silent}
 use Rattle.byte_writer.specs.Reading.{reads_back}
 use Rattle.byte_writer.specs.Received.{told_keys, told_received, told_none, is_on_lem, itself}
-use Rattle.byte_writer.specs.Wrote.{within, bytes_of_append, written_more, same_key}
+use Rattle.byte_writer.specs.Wrote.{bytes_of_append, written_more, same_key}
 
 -- ---- a new writer
 
@@ -37,7 +38,7 @@ pub new_sound : (s : ByteWriter) → New s → WriterSound s
 new_sound s n = record {
   order = new_order (notes s) (voices s) n.notes n.silent;
   agree = none_agree (notes s) (voices s) n.silent;
-  told = subst (λ l. Told l (voices s)) (sym (ap (λ w. take w (vec_items s.bytes)) n.written)) (subst (Told []) (sym n.silent) (told_none 128));
+  told = subst (λ l. Told l (voices s)) (sym (ap (λ w. take w (vec_items s.bytes.items)) n.written)) (subst (Told []) (sym n.silent) (told_none 128));
 }
 
 -- ---- the receiver
@@ -170,8 +171,8 @@ module _ (s : ByteWriter) (a : Answer Cause) (t : ByteWriter) where
   call_says (Set p e i v) d = refuses (Set p e i v) _ d
   call_says (Clear p) d = subst (Says (Clear p)) (sym d.answer) (nothing d.same, tt)
 
-written_length : (s : ByteWriter) (ms : List NoteMessage) → written_bytes s ≡ bytes_of ms → length (bytes_of ms) ≡ s.written
-written_length s ms e = ap length (sym e) ∙ length-take-le s.written (vec_items s.bytes) (within s)
+written_length : (s : ByteWriter) (ms : List NoteMessage) → written_bytes s ≡ bytes_of ms → length (bytes_of ms) ≡ s.bytes.written
+written_length s ms e = ap length (sym e) ∙ length-take-le s.bytes.written (vec_items s.bytes.items) (within s.bytes)
 
 pub calls_read_back : CallsReadBack
 calls_read_back s c a t h d =
@@ -187,7 +188,7 @@ pub sound_read_back : (s : ByteWriter) → WriterSound s → (ms : List NoteMess
 sound_read_back s h = (h.told.messages, record { ranged = h.told.ranged; bytes = h.told.bytes; read = told_received (written_bytes s) (voices s) h.told })
 
 reads_all : {s : ByteWriter} {ms : List NoteMessage} → SinceNew s ms → ReadBack s ms
-reads_all (made {s} n) = record { ranged = tt; bytes = ap (λ w. take w (vec_items s.bytes)) n.written; read = ap (λ w. received (take w (vec_items s.bytes))) n.written }
+reads_all (made {s} n) = record { ranged = tt; bytes = ap (λ w. take w (vec_items s.bytes.items)) n.written; read = ap (λ w. received (take w (vec_items s.bytes.items))) n.written }
 reads_all (called {s} {t} {ms} c a before d) =
     let r = reads_all before in
     let w = call_says s a t c d in
@@ -229,7 +230,7 @@ start_spare s a t p c k v h d enough =
     let was = s.sounding.counted in
     let is : t.sounding.count ≡ tally (set (silenced o xs) i (Some d.struck)) = t.sounding.counted ∙ ap tally d.voices in
     let written = d.wrote.written in
-    let room = d.room in
+    let room = d.wrote.room in
     let fits = t.reserved in
     omega arith
 

@@ -1,7 +1,7 @@
 -- The least ticket that sounds with a voice that passes a test.
-use Rattle.std.specs.Prelude.{◌≡◌, ℕ, zero, suc, ◌+◌, ◌<◌, Bool, true, false, cond, List, [], ◌∷◌, length, Some, None, Option}
+use Rattle.std.specs.Prelude.{◌≡◌, ℕ, zero, suc, ◌+◌, ◌<◌, ◌≤◌, Bool, true, false, cond, List, [], ◌∷◌, length, Some, None, Option, MatchOption}
 use Rattle.std.proofs.Math.Path.{refl, ap}
-use Rattle.std.proofs.Common.{subst, ◌∙◌}
+use Rattle.std.proofs.Common.{sym, subst, ◌∙◌}
 use native.Mathlib.Omega.{arith}
 use Rattle.sink.proofs.Bools.{clash}
 use Rattle.roll.specs.Voices.{one, voice, passes, sounding_with}
@@ -52,3 +52,8 @@ module _ {V : Type 0} (p : V → Bool) where
       let first = ap one both.0 in
       let rest = none_so xs both.1 in
       omega arith
+
+  -- the first of the 128 tickets that passes is the ticket found
+  pub found_first : (xs : List (Option V)) (r : Option ℕ) → length xs ≡ 128 → MatchOption r ((u : ℕ) → 0 ≤ u → u < 128 → passes p (voice xs u) ≡ false) (λ i. (0 ≤ i) × (i < 128) × (passes p (voice xs i) ≡ true) × ((u : ℕ) → 0 ≤ u → u < i → passes p (voice xs u) ≡ false)) → r ≡ ticket_with p xs
+  found_first xs None long h = sym (none_with xs (λ u lt. h u (omega arith) (omega arith)))
+  found_first xs (Some i) long h = sym (first_with xs i (λ u lt. h.3 u (omega arith) lt) h.2)

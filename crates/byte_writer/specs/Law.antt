@@ -35,12 +35,13 @@ stop_bytes None v = refl
 stop_bytes (Some y) v = refl
 
 -- its Note-off is what was reserved for it
-stop_spare : (s t : ByteWriter) (u v : ℕ) → Wrote (stop_messages (voice (voices s) u) v) s t → voices t ≡ slice_set (voices s) u None → t.room ≡ s.room → spare t ≡ spare s
-stop_spare s t u v w e room =
+stop_spare : (s t : ByteWriter) (u v : ℕ) → Wrote (stop_messages (voice (voices s) u) v) s t → voices t ≡ slice_set (voices s) u None → spare t ≡ spare s
+stop_spare s t u v w e =
     let fewer = with_stop (λ y. true) (voices s) u in
     let was = s.sounding.counted in
     let is : t.sounding.count ≡ tally (slice_set (voices s) u None) = t.sounding.counted ∙ ap tally e in
     let more = w.written in
+    let room = w.room in
     let bytes = stop_bytes (voice (voices s) u) v in
     omega arith
 
@@ -113,7 +114,7 @@ module _ (s : ByteWriter) (a : Answer Cause) (t : ByteWriter) (h : WriterSound s
       let high : v ≤ 127 = leb-true v 127 e in
       let lt = h.order.small u out in
       let long = s.sounding.long in (
-        subst (λ x. Means here writer_meaning s (Release p u v) x t) (sym d.answer) (e, end_ended (notes s) (notes t) (voices s) (voices t) s.sounding.long (nat_lt (spare s) 6) (nat_lt (spare t) 6) u h.order out d.roll d.voices (ap (λ x. ltb x 6) (stop_spare s t u v d.wrote d.voices d.room))),
+        subst (λ x. Means here writer_meaning s (Release p u v) x t) (sym d.answer) (e, end_ended (notes s) (notes t) (voices s) (voices t) s.sounding.long (nat_lt (spare s) 6) (nat_lt (spare t) 6) u h.order out d.roll d.voices (ap (λ x. ltb x 6) (stop_spare s t u v d.wrote d.voices))),
         record {
           order = subst (λ ns. InOrder ns (voices t)) (sym d.roll) (ended_order (notes s) (voices s) (voices t) u h.order (h.order.small u out) s.sounding.long d.voices);
           agree = subst (λ ns. Agree ns (voices t)) (sym d.roll) (subst (Agree (left_out (picked (Ticket u)) (notes s))) (sym d.voices) (ended_agree (notes s) (voices s) u h.agree (omega arith)));
@@ -128,7 +129,7 @@ module _ (s : ByteWriter) (a : Answer Cause) (t : ByteWriter) (h : WriterSound s
       let roll : notes t ≡ notes s = ap listed st.roll in
       let lt = h.order.small u out in
       let long = s.sounding.long in (
-        subst (λ x. Means here writer_meaning s (Hush p u) x t) (sym d.answer) (end_hushed (notes s) (notes t) (voices s) (voices t) s.sounding.long (nat_lt (spare s) 6) (nat_lt (spare t) 6) u h.order out roll st.voices (ap (λ x. ltb x 6) (stop_spare s t u 64 st.wrote st.voices st.room))),
+        subst (λ x. Means here writer_meaning s (Hush p u) x t) (sym d.answer) (end_hushed (notes s) (notes t) (voices s) (voices t) s.sounding.long (nat_lt (spare s) 6) (nat_lt (spare t) 6) u h.order out roll st.voices (ap (λ x. ltb x 6) (stop_spare s t u 64 st.wrote st.voices))),
         record {
           order = subst (λ ns. InOrder ns (voices t)) (sym roll) (hushed_order (notes s) (voices s) (voices t) u h.order (h.order.small u out) s.sounding.long st.voices);
           agree = subst (λ ns. Agree ns (voices t)) (sym roll) (subst (Agree (notes s)) (sym st.voices) (hushed_agree (notes s) (voices s) u h.agree (omega arith)));

@@ -49,11 +49,11 @@ says s c (denied f) = []
 abbrev pub CallsReadBack : Type 0
 CallsReadBack =
     (s : ByteWriter) (c : Call) (a : Answer Cause) (t : ByteWriter) → WriterSound s → WriterDoes s c a t →
-    received (written_bytes t) ≡ received (written_bytes s) ++ readings s.written (says s c a)
+    received (written_bytes t) ≡ received (written_bytes s) ++ readings s.bytes.written (says s c a)
 
 -- as it is made: nothing written, nothing owed, nothing sounds
 pub record New (s : ByteWriter) : Type 0 where
-  pub written : s.written ≡ 0
+  pub written : s.bytes.written ≡ 0
   pub notes : notes s ≡ []
   pub silent : voices s ≡ replicate 128 None
 
@@ -82,8 +82,8 @@ Takes (suc n) s =
 
 -- six bytes for each start
 abbrev pub SixBytesAStart : Type 0
-SixBytesAStart = (n : ℕ) (s : ByteWriter) → New s → n < 128 → 6 * n ≤ s.room → s.room < 6 * n + 6 → Takes n s
+SixBytesAStart = (n : ℕ) (s : ByteWriter) → New s → n < 128 → 6 * n ≤ s.bytes.room → s.bytes.room < 6 * n + 6 → Takes n s
 
 -- no start in five bytes, one in six or eleven, two in twelve
 abbrev pub FirstStarts : Type 0
-FirstStarts = (s : ByteWriter) → New s → (s.room ≡ 5 → Takes 0 s) × (s.room ≡ 6 → Takes 1 s) × (s.room ≡ 11 → Takes 1 s) × (s.room ≡ 12 → Takes 2 s)
+FirstStarts = (s : ByteWriter) → New s → (s.bytes.room ≡ 5 → Takes 0 s) × (s.bytes.room ≡ 6 → Takes 1 s) × (s.bytes.room ≡ 11 → Takes 1 s) × (s.bytes.room ≡ 12 → Takes 2 s)

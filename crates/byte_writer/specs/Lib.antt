@@ -1,4 +1,5 @@
 pub mod Keys
+pub mod Strikes
 pub mod Messages
 pub mod Receiver
 pub mod Writer
@@ -7,6 +8,5 @@ pub mod Law
 pub mod Agree
 pub mod Holders
 pub mod Wrote
-pub mod Places
 pub mod Received
 pub mod Reading

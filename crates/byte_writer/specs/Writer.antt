@@ -1,5 +1,5 @@
 -- What a byte writer means, and what each call writes.
-use Rattle.std.specs.Prelude.{◌≡◌, ℕ, ◌+◌, ◌-◌, ◌*◌, ◌<◌, true, false, List, [], ◌∷◌, ◌++◌, length, take, drop, Some, None, vec_items, Option, Result, nat_lt, slice_set}
+use Rattle.std.specs.Prelude.{◌≡◌, ℕ, ◌-◌, ◌*◌, ◌<◌, true, false, List, [], ◌∷◌, ◌++◌, Some, None, Option, Result, nat_lt, slice_set}
 use Rattle.sink.specs.Calls.{Call, Answer, ticket, done}
 use Rattle.sink.specs.Meaning.{Meaning}
 use Rattle.sink.specs.Ends.{End}
@@ -9,6 +9,7 @@ use Rattle.roll.specs.Rolls.{listed}
 use Rattle.roll.specs.Voices.{one, voice, sounding_with}
 use Rattle.roll.specs.declared.note.Note.{Note}
 use Rattle.roll.specs.declared.note.Pick.TheVariants.{Ticket}
+use Rattle.ends.specs.Buffers.{front, Appended}
 use Rattle.ends.specs.Ending.{check_of, end_meaning, new_note, InOrder, Deeds, EndDoes}
 use Rattle.byte_writer.specs.Keys.{is_key, ticket_with, silenced}
 use Rattle.byte_writer.specs.Messages.{bytes_of, readings, AllRanged}
@@ -20,7 +21,7 @@ use Rattle.byte_writer.specs.declared.writer.ByteWriter.{ByteWriter}
 
 -- the bytes written so far
 abbrev pub written_bytes : ByteWriter → List ℕ
-written_bytes s = take s.written (vec_items s.bytes)
+written_bytes s = front s.bytes
 
 -- the notes whose tickets are owed, the oldest first
 abbrev pub notes : ByteWriter → List Note
@@ -32,7 +33,7 @@ voices s = s.sounding.voices
 
 -- the bytes that are free, less three for the Note-off of each ticket that sounds
 abbrev pub spare : ByteWriter → ℕ
-spare s = s.room - s.written - 3 * s.sounding.count
+spare s = s.bytes.room - s.bytes.written - 3 * s.sounding.count
 
 -- a ticket must be free, and six bytes to spare: three for the Note-on, and three for its Note-off or for that of the note struck again
 abbrev pub writer_check : ByteWriter → Result (Unit {0}) Cause
@@ -41,14 +42,9 @@ writer_check s = check_of (full (notes s)) (nat_lt (spare s) 6)
 abbrev pub writer_meaning : ByteWriter → Meaning
 writer_meaning s = end_meaning (writer_check s) (notes s) (voices s)
 
--- these bytes stand from place i on; every other place stays
-abbrev pub written_at : ℕ → List ℕ → List ℕ → List ℕ
-written_at i bs xs = take i xs ++ (bs ++ drop (i + length bs) xs)
-
 -- these messages are written at the next places, and nothing else
-pub record Wrote (ms : List NoteMessage) (s t : ByteWriter) : Type 0 where
-  pub bytes : vec_items t.bytes ≡ written_at s.written (bytes_of ms) (vec_items s.bytes)
-  pub written : t.written ≡ s.written + length (bytes_of ms)
+abbrev pub Wrote : List NoteMessage → ByteWriter → ByteWriter → Type 0
+Wrote ms s t = Appended (bytes_of ms) s.bytes t.bytes
 
 -- the Note-off of a ticket that sounds; none of a silent one
 abbrev pub stop_messages : Option Key → (velocity : ℕ) → List NoteMessage
@@ -59,7 +55,6 @@ pub record Stops (u velocity : ℕ) (s t : ByteWriter) : Type 0 where
   pub wrote : Wrote (stop_messages (voice (voices s) u) velocity) s t
   pub voices : voices t ≡ slice_set (voices s) u None
   pub roll : t.roll ≡ s.roll
-  pub room : t.room ≡ s.room
 
 -- a ticket that sounds with the key to be struck stops first, with velocity 64
 abbrev pub HushedFirst : Option ℕ → ByteWriter → ByteWriter → Type 0
@@ -88,7 +83,6 @@ pub record Begins (place channel key velocity : ℕ) (s : ByteWriter) (a : Answe
   pub on_key : struck.number ≡ key
   pub voices : voices t ≡ slice_set (silenced (holder channel key s) (voices s)) number (Some struck)
   pub roll : notes t ≡ notes s ++ (new_note number channel key velocity ∷ [])
-  pub room : t.room ≡ s.room
 
 -- A ticket is released: its Note-off, and it is out of the roll.
 pub record Releases (place u velocity : ℕ) (note : Note) (s : ByteWriter) (a : Answer Cause) (t : ByteWriter) : Type 0 where
@@ -96,7 +90,6 @@ pub record Releases (place u velocity : ℕ) (note : Note) (s : ByteWriter) (a :
   pub wrote : Wrote (stop_messages (voice (voices s) u) velocity) s t
   pub voices : voices t ≡ slice_set (voices s) u None
   pub roll : notes t ≡ left_out (picked (Ticket u)) (notes s)
-  pub room : t.room ≡ s.room
 
 -- A ticket is hushed: its Note-off, with velocity 64.
 pub record Hushes (place u : ℕ) (note : Note) (s : ByteWriter) (a : Answer Cause) (t : ByteWriter) : Type 0 where

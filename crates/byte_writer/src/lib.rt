@@ -3,5 +3,6 @@
 
 mod key;
 mod message;
+mod strike;
 pub mod theorems;
 pub mod writer;

@@ -1,5 +1,8 @@
-ghost use Rattle.std.specs.Prelude.{◌≡◌};
+ghost use Rattle.std.specs.Prelude.{◌≡◌, ◌+◌, ◌≤◌};
+ghost use Rattle.ends.specs.Buffers.{Appended};
 ghost use Rattle.byte_writer.specs.Messages.{Ranged, message_bytes};
+
+use ends::buffer::Buffer;
 
 // A Note-on or a Note-off.
 #[derive(Clone, Copy)]
@@ -10,7 +13,7 @@ pub enum NoteMessage {
 
 impl NoteMessage {
     // The status byte and the two data bytes.
-    pub(crate) fn bytes(self) -> [u8; 3]
+    fn bytes(self) -> [u8; 3]
         requires { Ranged self }
         ensures { result ≡ message_bytes self }
     {
@@ -26,5 +29,14 @@ impl NoteMessage {
                 velocity,
             } => [0x80 + channel, key, velocity],
         }
+    }
+
+    // Writes it at the next three places.
+    pub(crate) fn write(self, bytes: &mut Buffer<u8>)
+        requires ranged { Ranged self }
+        requires space { bytes.old.written + 3 ≤ bytes.old.room }
+        ensures { Appended (message_bytes self) bytes.old bytes.new }
+    {
+        bytes.append(&self.bytes());
     }
 }

@@ -1,14 +1,25 @@
-// What the ends have in common: how much they use of the memory that they are handed, which calls they refuse, and the law of their tickets.
+// What the ends have in common: the memory that they are handed, which calls they refuse, and the law of their tickets.
 #![tactic(auto)]
 
-ghost use Rattle.std.specs.Prelude.{◌≡◌, min};
+ghost use Rattle.std.specs.Prelude.{◌≡◌, nat_lt};
+ghost use Rattle.roll.specs.Notes.{full};
+ghost use Rattle.roll.specs.Rolls.{listed};
+ghost use Rattle.ends.specs.Ending.{check_of};
 
-// The most places that an end uses.
-const MOST: usize = 1_000_000_000;
+use roll::roll::Roll;
+use sink::fault::Cause;
 
-// How many of so many places an end uses.
-pub fn room_in(places: usize) -> usize
-    ensures { result ≡ min places 1000000000 }
+pub mod buffer;
+
+// Whether an end with this roll and so many spare places takes a start that needs so many, and else why not.
+pub fn check_start(roll: &Roll, spare: usize, need: usize) -> Result<(), Cause>
+    ensures { result ≡ check_of (full (listed roll.now)) (nat_lt spare need) }
 {
-    places.min(MOST)
+    if roll.is_full() {
+        return Err(Cause::AllOut);
+    }
+    if spare < need {
+        return Err(Cause::NoSpace);
+    }
+    Ok(())
 }

@@ -7,9 +7,6 @@ use Rattle.reader.specs.Rules.{Reading, message, reads, reaches}
 use Rattle.sink.specs.declared.fault.refusal.Refusal
 use Rattle.sink.specs.declared.sink.Sink
 use Rattle.sink.specs.Calls.{Call, Start, Release, Tell, Set, Clear, Answer, ticket}
-use Rattle.sink.specs.Ends.{End}
-use Rattle.sink.specs.Faults.{Denial}
-use Rattle.sink.specs.Meaning.{Meaning}
 use Rattle.run.specs.declared.counts.TooManyBytes.{TooManyBytes}
 use Rattle.run.specs.declared.player.Player.{Player}
 use Rattle.run.specs.declared.runs.Run.{Run}
@@ -20,8 +17,8 @@ use Rattle.run.proofs.Tables.{none_some, some_same, none_at, written}
 use Rattle.exam_table.specs.Rows.{Fed, Plays}
 
 pub not_nil : {A : Type 0} (xs : List A) (x : A) → xs ++ (x ∷ []) ≡ [] → ⊥
-not_nil [] x e = let z : ◌≡◌ {A = ℕ} 0 1 = cc in omega arith
-not_nil (y ∷ xs) x e = let z : ◌≡◌ {A = ℕ} 0 1 = cc in omega arith
+not_nil [] x e = cc
+not_nil (y ∷ xs) x e = cc
 
 pub only_one : {A : Type 0} (xs : List A) (x y : A) → xs ++ (x ∷ []) ≡ y ∷ [] → (xs ≡ []) × (x ≡ y)
 only_one [] x y e = (refl, cc)
@@ -33,7 +30,7 @@ empty_again T t i wide none =
     let long = length-set T 60 (Some t) in
     ⊎_elim (λ k. k.1) (λ k. k.1 ∙ get_or-set_other T 60 i (Some t) None k.0 ∙ none) (written (set T 60 (Some t)) 60 i None (omega arith))
 
-module _ {S F : Type 0} (sees : F → Denial) (meaning : S → Meaning) (sound : S → Type 0) (does : S → Call → Answer F → S → Type 0) (ends : S → List End) where
+module _ {S F : Type 0} (does : S → Call → Answer F → S → Type 0) where
   -- the calls that the stack gets, in their order
   pub record CalledRows (t : ℕ) (s₀ s₁ s₂ s₃ s₄ s₅ left : S) : Type 0 where
     pub a₂ : Answer F
@@ -48,31 +45,31 @@ module _ {S F : Type 0} (sees : F → Denial) (meaning : S → Meaning) (sound :
     pub pedal_up : does s₄ (Tell 11 0 64 0) a₅ s₅
     pub clear : does s₅ (Clear 12) a₆ left
 
-module _ {S F : Type 0} {gs : Sink.Ghosts S F} {gf : Refusal.Ghosts F} (sees : F → Denial) (meaning : S → Meaning) (sound : S → Type 0) (does : S → Call → Answer F → S → Type 0) (ends : S → List End) where
+module _ {S F : Type 0} {gs : Sink.Ghosts S F} {gf : Refusal.Ghosts F} where
   -- ---- one reading
 
-  played_nil : {rs : List Reading} {b b' : Player S F gs gf} {es : List (Event F)} → rs ≡ [] → Played meaning does rs b es b' → b ≡ b'
+  played_nil : {rs : List Reading} {b b' : Player S F gs gf} {es : List (Event F)} → rs ≡ [] → Played rs b es b' → b ≡ b'
   played_nil e played_none = refl
   played_nil e (played_more r {rs} es₁ before ranged step) = absurd (not_nil rs r e)
 
-  played_one : {rs : List Reading} {b b' : Player S F gs gf} {es : List (Event F)} (x : Reading) → rs ≡ x ∷ [] → Played meaning does rs b es b' → (es₁ : List (Event F)) × OnReading meaning does x b es₁ b'
-  played_one x e played_none = let z : ◌≡◌ {A = ℕ} 0 1 = cc in absurd (omega arith)
+  played_one : {rs : List Reading} {b b' : Player S F gs gf} {es : List (Event F)} (x : Reading) → rs ≡ x ∷ [] → Played rs b es b' → (es₁ : List (Event F)) × OnReading x b es₁ b'
+  played_one x e played_none = cc
   played_one x e (played_more r {rs} {b} {b₁} {b'} es₁ before ranged step) =
       let k = only_one rs r x e in
-      (es₁, subst₂ (λ y c. OnReading meaning does y c es₁ b') k.1 (sym (played_nil k.0 before)) step)
+      (es₁, subst₂ (λ y c. OnReading y c es₁ b') k.1 (sym (played_nil k.0 before)) step)
 
   -- a piece that gives one reading, and the reader behind it
   record Read (x : Reading) (st : State) (n : ℕ) (r r' : Run S F gs gf) : Type 0 where
     events : List (Event F)
-    on : OnReading meaning does x r.player events r'.player
+    on : OnReading x r.player events r'.player
     state : r'.reader.state ≡ st
     count : r'.count ≡ n
 
-  taken : (bytes : List ℕ) (n : ℕ) (r r' : Run S F gs gf) (a : Result (Unit {0}) TooManyBytes) → r.count ≡ n → n + length bytes ≤ 4000000000 → Feeds sees meaning sound does ends bytes r a r' → (u : Unit {0}) × Feeds sees meaning sound does ends bytes r (Ok u) r'
+  taken : (bytes : List ℕ) (n : ℕ) (r r' : Run S F gs gf) (a : Result (Unit {0}) TooManyBytes) → r.count ≡ n → n + length bytes ≤ 4000000000 → Feeds bytes r a r' → (u : Unit {0}) × Feeds bytes r (Ok u) r'
   taken bytes n r r' (Ok u) e h d = (u, d)
   taken bytes n r r' (Err x) e h d = let over = d.0 in absurd (omega arith)
 
-  fed : (bytes : List ℕ) (st : State) (n : ℕ) (x : Reading) (r r' : Run S F gs gf) → reads st n bytes ≡ x ∷ [] → n + length bytes ≤ 4000000000 → r.reader.state ≡ st → r.count ≡ n → Fed sees meaning sound does ends bytes r r' → Read x (reaches st bytes) (n + length bytes) r r'
+  fed : (bytes : List ℕ) (st : State) (n : ℕ) (x : Reading) (r r' : Run S F gs gf) → reads st n bytes ≡ x ∷ [] → n + length bytes ≤ 4000000000 → r.reader.state ≡ st → r.count ≡ n → Fed bytes r r' → Read x (reaches st bytes) (n + length bytes) r r'
   fed bytes st n x r r' one h es ec d =
       let f = (taken bytes n r r' d.answer ec h d.feeds).1 in
       let p = played_one x (ap (λ z. reads z r.count bytes) es ∙ ap (λ c. reads st c bytes) ec ∙ one) f.1.played in
@@ -81,19 +78,19 @@ module _ {S F : Type 0} {gs : Sink.Ghosts S F} {gf : Refusal.Ghosts F} (sees : F
   -- ---- the key table
 
   -- key 60 is struck while its place in the table is empty
-  struck : {b b' : Player S F gs gf} {es : List (Event F)} → at b.table 60 ≡ None → OnNoteOn meaning does 2 0 60 100 b es b' → (a : Answer F) × does b.stack (Start 2 0 60 100) a b'.stack × (b'.table ≡ entered 60 a b.table)
+  struck : {b b' : Player S F gs gf} {es : List (Event F)} → at b.table 60 ≡ None → OnNoteOn 2 0 60 100 b es b' → (a : Answer F) × gs.does b.stack (Start 2 0 60 100) a b'.stack × (b'.table ≡ entered 60 a b.table)
   struck {b} {b'} none d =
       let st = d.started in
       let same : (d.between.stack ≡ b.stack) × (d.between.table ≡ b.table) = ⊎_elim (λ k. (k.1.stack, k.1.table)) (λ k. absurd (none_some none k.1.held)) d.emptied in
-      (st.answer, subst (λ x. does x (Start 2 0 60 100) st.answer b'.stack) same.0 st.call, st.table ∙ ap (entered 60 st.answer) same.1)
+      (st.answer, subst (λ x. gs.does x (Start 2 0 60 100) st.answer b'.stack) same.0 st.call, st.table ∙ ap (entered 60 st.answer) same.1)
 
   -- and comes up while the table has its ticket
-  let_go : {b b' : Player S F gs gf} {es : List (Event F)} (t : ℕ) → at b.table 60 ≡ Some t → OnNoteOff meaning does 8 0 60 64 b es b' → (a : Answer F) × does b.stack (Release 8 t 64) a b'.stack × (b'.table ≡ set b.table 60 None)
+  let_go : {b b' : Player S F gs gf} {es : List (Event F)} (t : ℕ) → at b.table 60 ≡ Some t → OnNoteOff 8 0 60 64 b es b' → (a : Answer F) × gs.does b.stack (Release 8 t 64) a b'.stack × (b'.table ≡ set b.table 60 None)
   let_go {b} {b'} t has (inl k) = absurd (none_some k.0 has)
-  let_go {b} {b'} t has (inr k) = (k.1.answer, subst (λ u. does b.stack (Release 8 u 64) k.1.answer b'.stack) (some_same k.1.held has) k.1.call, k.1.table)
+  let_go {b} {b'} t has (inr k) = (k.1.answer, subst (λ u. gs.does b.stack (Release 8 u 64) k.1.answer b'.stack) (some_same k.1.held has) k.1.call, k.1.table)
 
   -- nothing is swept out of an empty table
-  swept_nothing : (p from to : ℕ) {b b' : Player S F gs gf} {es : List (Event F)} → ((i : ℕ) → at b.table i ≡ None) → Swept meaning does p from to b es b' → (b'.stack ≡ b.stack) × (b'.table ≡ b.table)
+  swept_nothing : (p from to : ℕ) {b b' : Player S F gs gf} {es : List (Event F)} → ((i : ℕ) → at b.table i ≡ None) → Swept p from to b es b' → (b'.stack ≡ b.stack) × (b'.table ≡ b.table)
   swept_nothing p from _ none swept_none = (refl, refl)
   swept_nothing p from _ none (swept_more {i} {b} {b₁} {b'} {es} {es₁} before next) =
       let k = swept_nothing p from i none before in
@@ -101,15 +98,15 @@ module _ {S F : Type 0} {gs : Sink.Ghosts S F} {gf : Refusal.Ghosts F} (sees : F
 
   -- ---- the rows
 
-  module _ (s₀ left : S) (p : Plays gs gf sees meaning sound does ends s₀ left) (starts : (a : Answer F) (s : S) → does s₀ (Start 2 0 60 100) a s → (t : ℕ) × (a ≡ ticket t)) where
-    pub called : (t : ℕ) × CalledRows sees meaning sound does ends t s₀ p.r₁.player.stack p.r₂.player.stack p.r₃.player.stack p.r₄.player.stack p.r₅.player.stack left
+  module _ (s₀ left : S) (p : Plays gs gf s₀ left) (starts : (a : Answer F) (s : S) → gs.does s₀ (Start 2 0 60 100) a s → (t : ℕ) × (a ≡ ticket t)) where
+    pub called : (t : ℕ) × CalledRows gs.does t s₀ p.r₁.player.stack p.r₂.player.stack p.r₃.player.stack p.r₄.player.stack p.r₅.player.stack left
     called =
         let o = p.opens in
         let T = p.r₀.player.table in
         let wide = p.r₀.player.long in
         let f₁ = fed (0x90 ∷ 60 ∷ 100 ∷ []) s.Idle 0 (message 2 (m.NoteOn 0 60 100)) p.r₀ p.r₁ refl (lit≤ tt) o.state o.count p.key_down in
         let k₁ = struck (ap (λ x. at x 60) o.table ∙ none_at 2048 60) f₁.on in
-        let first = subst (λ x. does x (Start 2 0 60 100) k₁.0 p.r₁.player.stack) o.stack k₁.1 in
+        let first = subst (λ x. gs.does x (Start 2 0 60 100) k₁.0 p.r₁.player.stack) o.stack k₁.1 in
         let tk = starts k₁.0 p.r₁.player.stack first in
         let t = tk.0 in
         let f₂ = p.transpose.1 in
@@ -128,11 +125,11 @@ module _ {S F : Type 0} {gs : Sink.Ghosts S F} {gf : Refusal.Ghosts F} (sees : F
             a₄ = k₄.0;
             a₅ = f₅.on.answer;
             a₆ = c.swept.called.answer;
-            key_down = subst (λ a. does s₀ (Start 2 0 60 100) a p.r₁.player.stack) tk.1 first;
-            transpose = subst (λ n. does p.r₁.player.stack (Set n 0 0 (pos 12)) p.transpose.0 p.r₂.player.stack) f₁.count f₂.call;
+            key_down = subst (λ a. gs.does s₀ (Start 2 0 60 100) a p.r₁.player.stack) tk.1 first;
+            transpose = subst (λ n. gs.does p.r₁.player.stack (Set n 0 0 (pos 12)) p.transpose.0 p.r₂.player.stack) f₁.count f₂.call;
             pedal_down = f₃.on.call;
             key_up = k₄.1;
             pedal_up = f₅.on.call;
-            clear = subst (does p.r₅.player.stack (Clear 12) c.swept.called.answer) (sym c.stack) (subst₂ (λ x n. does x (Clear n) c.swept.called.answer p.closes.1.stack) swept.0 f₅.count c.swept.called.call);
+            clear = subst (gs.does p.r₅.player.stack (Clear 12) c.swept.called.answer) (sym c.stack) (subst₂ (λ x n. gs.does x (Clear n) c.swept.called.answer p.closes.1.stack) swept.0 f₅.count c.swept.called.call);
           },
         )

@@ -14,6 +14,7 @@ use Rattle.roll.specs.declared.note.Note.{Note}
 use Rattle.roll.specs.declared.note.Pick.TheVariants.{KeptOn}
 use Rattle.roll.specs.Notes.{found, lists, added, marked, mark_kept, left_out, picked}
 use Rattle.roll.specs.Rolls.{listed}
+use Rattle.ends.specs.Ending.{IfReady}
 use Rattle.rolled.specs.Rolled.{notes_of, keeps, kept_note, new_note, NotReady, says_yes}
 use Rattle.rolled.specs.Chains.{tickets_of, named, Releases}
 use Rattle.rolled.proofs.Below.{Lawful}
@@ -23,7 +24,7 @@ use Rattle.transposer.specs.Folded.{one_key}
 use Rattle.hold.specs.declared.hold.Hold.{Hold}
 use Rattle.hold.specs.Hold.{is_under_pedal, note_under, On, KeptHere}
 use Rattle.voice_log.specs.declared.log.VoiceLog.{VoiceLog}
-use Rattle.voice_log.specs.Log.{notes, serial_of, log_check, log_meaning, LogDoes, LogSound, Begins, starts}
+use Rattle.voice_log.specs.Log.{notes, serial_of, log_check, log_meaning, LogDoes, LogSound, Begins}
 use Rattle.voice_log.specs.Law.{log_law}
 use Rattle.exam_table.specs.Stack.{ExamStack, log_of, held_meaning, HeldDoes, StackDoes}
 use Rattle.exam_table.specs.Answer.{Rests, Rows, Speaks60, NoneSpeaks, AnswersStand}
@@ -32,8 +33,8 @@ pub log_lawful : Lawful here log_meaning LogSound LogDoes
 log_lawful = record {
   orderly = λ s h. record {
     apart = λ u e. refl;
-    sounding = λ u e. ap (λ b. b || false) (h.within u e);
-    small = λ u e. let v : u < 128 = h.small u (sym (or-false (lists (notes s) u)) ∙ e) in omega arith;
+    sounding = λ u e. ap (λ b. b || false) (h.order.within u e);
+    small = λ u e. let v : u < 128 = h.order.small u (sym (or-false (lists (notes s) u)) ∙ e) in omega arith;
   };
   stays = λ s c a t h d. (log_law s a t h c d).1;
   means = λ s c a t h d. (log_law s a t h c d).0;
@@ -45,12 +46,12 @@ no_notes [] f = refl
 no_notes (n ∷ ns) f = clash (lists (n ∷ ns) n.ticket) (ap (λ b. b || lists ns n.ticket) (self_eq n.ticket)) (f n.ticket)
 
 no_ticket : {A F : Type 0} {f : F} {t : ℕ} → ◌≡◌ {A = Answer F} (ticket t) (denied f) → A
-no_ticket e = let z : ◌≡◌ {A = ℕ} 0 1 = cc in absurd (omega arith)
+no_ticket e = cc
 
 came_up : {F : Type 0} (t : ℕ) (b : Answer F) → ticket t ≡ passed b → b ≡ ticket t
 came_up t (ticket u) e = cc
-came_up t done e = let z : ◌≡◌ {A = ℕ} 0 1 = cc in absurd (omega arith)
-came_up t (denied f) e = let z : ◌≡◌ {A = ℕ} 0 1 = cc in absurd (omega arith)
+came_up t done e = cc
+came_up t (denied f) e = cc
 
 middle : (A B C : Type 0) (x y : Bool) → x ≡ false → y ≡ true → cond x A (cond y B C) → B
 middle A B C true y e f d = clash true refl e
@@ -80,7 +81,7 @@ pub record Held (l : VoiceLog) (down : List Bool) (n : Note) (h : Hold VoiceLog)
 -- ---- the key goes down
 
 module _ (t p : ℕ) where
-  begun : (x : Result (Unit {0}) Cause) (l l' : VoiceLog) → starts x p 0 60 100 l (ticket t) l' → Begins p 0 60 100 l (ticket t) l'
+  begun : (x : Result (Unit {0}) Cause) (l l' : VoiceLog) → IfReady x (Begins p 0 60 100) l (ticket t) l' → Begins p 0 60 100 l (ticket t) l'
   begun (Ok _) l l' d = d
   begun (Err f) l l' d = no_ticket d.answer
 
@@ -161,7 +162,7 @@ silent_after : (t p : ℕ) (l l' : VoiceLog) → Sounds t l → Releases LogDoes
 unfolding lists named
 silent_after t p l l' w d u =
     let g = gone log_lawful d w.sound in
-    refuted _ _ (g.0.within u) (g.1.owed u ∙ ap (λ ns. lists ns u && not (named (t ∷ []) u)) w.logged ∙ never_both (eqb t u))
+    refuted _ _ (g.0.order.within u) (g.1.owed u ∙ ap (λ ns. lists ns u && not (named (t ∷ []) u)) w.logged ∙ never_both (eqb t u))
 
 speaks : (t : ℕ) (l : VoiceLog) (s : ExamStack) → Sounds t l → log_of s ≡ l → Speaks60 t s
 unfolding found

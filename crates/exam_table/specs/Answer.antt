@@ -10,7 +10,7 @@ use Rattle.rolled.specs.Rolled.{notes_of}
 use Rattle.voice_log.specs.Log.{notes}
 use Rattle.voice_log.specs.declared.line.Line.{Line}
 use Rattle.exam_table.specs.Rows.{Plays}
-use Rattle.exam_table.specs.Stack.{ExamStack, ExamFault, New, log_of, stack_sees, stack_meaning, StackSound, StackDoes, stack_ends}
+use Rattle.exam_table.specs.Stack.{ExamStack, ExamFault, New, log_of, stack_meaning, StackSound, StackDoes}
 
 -- no key down, no pedal down, no shift
 pub record Rests (s : ExamStack) : Type 0 where
@@ -58,5 +58,5 @@ AnswersStand =
 abbrev pub RunsStand : (gs : Sink.Ghosts ExamStack ExamFault) (gf : Refusal.Ghosts ExamFault) → Type 0
 RunsStand gs gf =
     (lines : List Line) (stack left : ExamStack) → New lines stack → Rests stack → 2 ≤ length lines →
-    (p : Plays gs gf stack_sees stack_meaning StackSound StackDoes stack_ends stack left) →
+    (p : Plays gs gf stack left) →
     (t : ℕ) × Speaks60 t p.r₁.player.stack × Speaks60 t p.r₂.player.stack × Speaks60 t p.r₃.player.stack × Speaks60 t p.r₄.player.stack × NoneSpeaks p.r₅.player.stack

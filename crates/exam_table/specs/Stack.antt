@@ -51,7 +51,7 @@ pub record New (items : List Line) (s : ExamStack) : Type 0 where
   pub pedals : s.below.pedals.on ≡ replicate 16 false
   pub held : notes_of s.below.rolled ≡ []
   pub logged : notes (log_of s) ≡ []
-  pub silent : (log_of s).sounding.serials ≡ replicate 128 None
-  pub written : (log_of s).written ≡ 0
-  pub lines : vec_items (log_of s).lines ≡ items
-  pub room : (log_of s).room ≡ min (length items) 1000000000
+  pub silent : (log_of s).sounding.voices ≡ replicate 128 None
+  pub written : (log_of s).lines.written ≡ 0
+  pub lines : vec_items (log_of s).lines.items ≡ items
+  pub room : (log_of s).lines.room ≡ min (length items) 1000000000

@@ -8,5 +8,15 @@ pub enum Row {
     PedalUp,
 }
 
+impl Row {
+    pub const ALL: [Row; 5] = [
+        Row::KeyDown,
+        Row::Transpose,
+        Row::PedalDown,
+        Row::KeyUp,
+        Row::PedalUp,
+    ];
+}
+
 pub mod acts;
 pub mod label;

@@ -11,9 +11,6 @@ use voice_log::line::Line;
 pub fn answer_sheet(heap: Global) -> Result<String, fmt::Error>
     ensures { IfOk result (λ t. string_bytes t ≡ right_answers) }
 {
-    let Ok(lines) = vec![in heap; Line::BLANK; 2] else {
-        return Err(fmt::Error);
-    };
-    let logged = log(lines);
-    table(heap, &logged.lines[0..logged.written])
+    let logged = log(vec![in heap; Line::BLANK; 2]?);
+    table(heap, logged.written_lines())
 }

@@ -16,14 +16,12 @@ use voice_log::log::VoiceLog;
 
 // Opens a run over a stack, plays the rows in their order, closes it, and hands the stack back.
 pub fn play<S: Sink>(stack: S) -> S
-    ensures { Plays S.Sink S.Fault.Refusal S.Fault.Refusal.denial S.Sink.meaning S.Sink.sound S.Sink.does S.Sink.ends stack result }
+    ensures { Plays S.Sink S.Fault.Refusal stack result }
 {
     let (mut run, slip) = Run::open(stack);
-    Row::KeyDown.act(&mut run);
-    Row::Transpose.act(&mut run);
-    Row::PedalDown.act(&mut run);
-    Row::KeyUp.act(&mut run);
-    Row::PedalUp.act(&mut run);
+    for row in Row::ALL {
+        row.act(&mut run);
+    }
     let (_, stack) = run.close(slip);
     stack
 }
@@ -39,17 +37,26 @@ pub fn exam_stack(lines: Vec<Line>) -> ExamStack
     Transposer::new(Hold::new(VoiceLog::new(lines)))
 }
 
-// What comes of the rows: the first `written` lines are the log.
+// What comes of the rows: the first `written` lines are the log. The lines stand whole, as the log was handed them.
 #[derive(Drop)]
 pub struct Logged {
     pub lines: Vec<Line>,
     pub written: usize,
 }
 
+impl Logged {
+    // The lines of the log.
+    pub fn written_lines(&self) -> &[Line]
+        ensures { result.now ≡ take self.now.written self.now.lines.items }
+    {
+        &self.lines[..self.written.min(self.lines.len())]
+    }
+}
+
 // Takes the stack apart.
 fn unstack(stack: ExamStack) -> Logged
-    ensures lines { result.lines ≡ (log_of stack).lines }
-    ensures written { result.written ≡ (log_of stack).written }
+    ensures lines { result.lines ≡ (log_of stack).lines.items }
+    ensures written { result.written ≡ (log_of stack).lines.written }
     ensures within { result.written ≤ vec_len result.lines }
 {
     let (lines, written) = stack.finish().finish().finish();

@@ -18,11 +18,7 @@ fn stops(line: Line, serial: u32, end: u64) -> bool
 fn is_stopped(lines: &[Line], serial: u32, end: u64) -> bool
     ensures { result ≡ stopped end serial lines.now }
 {
-    let mut stopped = false;
-    for line in lines {
-        stopped |= stops(*line, serial, end);
-    }
-    stopped
+    lines.iter().any(|line| stops(*line, serial, end))
 }
 
 // Whether a line begins a note before a place, and no line stops it before that place.
@@ -39,11 +35,9 @@ fn is_speaking(line: Line, lines: &[Line], end: u64) -> bool
 pub fn speaking(heap: Global, lines: &[Line], end: u64) -> Result<Vec<u8>, AllocError>
     ensures { IfOk result (λ keys. keys.items ≡ speaking end lines.now) }
 {
-    let mut keys = Vec::new(heap);
-    for line in lines {
-        if is_speaking(*line, lines, end) {
-            keys.push(line.key)?;
-        }
-    }
-    Ok(keys)
+    lines
+        .iter()
+        .filter(|line| is_speaking(**line, lines, end))
+        .map(|line| line.key)
+        .collect(heap)
 }

@@ -9,14 +9,12 @@ use std::fmt;
 use voice_log::line::Line;
 
 // Writes a row: what is done, and which pipes then speak.
+#[tactic(auto, unfolding(crate::specs::Table::row_text))]
 fn write_row(heap: Global, text: &mut String, row: Row, lines: &[Line]) -> fmt::Result
     ensures { OnOk result (string_bytes text.new ≡ string_bytes text.old ++ row_text lines.now row) }
 {
-    let Ok(keys) = speaking(heap, lines, row.end()) else {
-        return Err(fmt::Error);
-    };
-    let pipes = Pipes(&keys);
-    writeln!(text, "{row}{pipes}")?;
+    let keys = speaking(heap, lines, row.end())?;
+    writeln!(text, "{row}{}", Pipes(&keys))?;
     Ok(())
 }
 
@@ -25,10 +23,8 @@ pub fn table(heap: Global, lines: &[Line]) -> Result<String, fmt::Error>
     ensures { IfOk result (λ t. string_bytes t ≡ table_text lines.now) }
 {
     let mut text = String::new(heap);
-    write_row(heap, &mut text, Row::KeyDown, lines)?;
-    write_row(heap, &mut text, Row::Transpose, lines)?;
-    write_row(heap, &mut text, Row::PedalDown, lines)?;
-    write_row(heap, &mut text, Row::KeyUp, lines)?;
-    write_row(heap, &mut text, Row::PedalUp, lines)?;
+    for row in Row::ALL {
+        write_row(heap, &mut text, row, lines)?;
+    }
     Ok(text)
 }

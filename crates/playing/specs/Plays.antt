@@ -3,8 +3,9 @@ use Rattle.std.specs.Prelude.{◌≡◌, ℕ, ◌+◌, ◌<◌, ◌≤◌, List,
 use Rattle.reader.specs.declared.states.State.TheVariants.{Idle as idle_state}
 use Rattle.reader.specs.Rules.{reads}
 use Rattle.reader.specs.Laws.{note_ons_of}
-use Rattle.sink.specs.Ends.{End, Each, clean, complete}
-use Rattle.sink.specs.Meaning.{Meaning, Idle}
+use Rattle.sink.specs.declared.sink.Sink
+use Rattle.sink.specs.Ends.{Each, clean, complete}
+use Rattle.sink.specs.Meaning.{Idle}
 use Rattle.run.specs.declared.counts.Tally.{Tally}
 use Rattle.run.specs.declared.counts.TooManyBytes.{TooManyBytes}
 
@@ -26,9 +27,9 @@ pub record Told {F : Type 0} (bytes : List ℕ) (tally : Tally F) : Type 0 where
   pub even : tally.taken ≡ tally.returned
 
 -- and the stack is left sound and idle; at our ends below, no note was begun twice or stopped before, and each is stopped
-pub record Left {S F : Type 0} (meaning : S → Meaning) (sound : S → Type 0) (ends : S → List End) (bytes : List ℕ) (tally : Tally F) (stack : S) : Type 0 where
+pub record Left {S F : Type 0} (gs : Sink.Ghosts S F) (bytes : List ℕ) (tally : Tally F) (stack : S) : Type 0 where
   pub told : Told bytes tally
-  pub sound_left : sound stack
-  pub idle : Idle (meaning stack)
-  pub clean : Each clean (ends stack)
-  pub complete : Each complete (ends stack)
+  pub sound_left : gs.sound stack
+  pub idle : Idle (gs.meaning stack)
+  pub clean : Each clean (gs.ends stack)
+  pub complete : Each complete (gs.ends stack)

@@ -25,7 +25,7 @@ pub struct Played<S: Sink> {
 // Opens a run over a stack, feeds it the bytes and closes it. Where the stack was sound and idle, no note is left.
 pub fn play<S: Sink>(stack: S, bytes: &[u8]) -> Played<S>
     ensures fed { Fed bytes.now result.fed }
-    ensures left { S.Sink.sound stack → Idle (S.Sink.meaning stack) → Left S.Sink.meaning S.Sink.sound S.Sink.ends (bytes_read result.fed bytes.now) result.tally result.stack }
+    ensures left { S.Sink.sound stack → Idle (S.Sink.meaning stack) → Left S.Sink (bytes_read result.fed bytes.now) result.tally result.stack }
 {
     let (mut run, slip) = Run::open(stack);
     let fed = run.feed(bytes);
@@ -33,13 +33,22 @@ pub fn play<S: Sink>(stack: S, bytes: &[u8]) -> Played<S>
     Played { fed, tally, stack }
 }
 
-// What comes of playing a stream into a voice log: the first `written` lines are the log.
+// What comes of playing a stream into a voice log: the first `written` lines are the log. The lines stand whole, as the log was handed them.
 #[derive(Drop)]
 pub struct Logged {
     pub fed: Result<(), TooManyBytes>,
     pub tally: Tally<LayerFault<Cause>>,
     pub lines: Vec<Line>,
     pub written: usize,
+}
+
+impl Logged {
+    // The lines of the log.
+    pub fn written_lines(&self) -> &[Line]
+        ensures { result.now ≡ take self.now.written self.now.lines.items }
+    {
+        &self.lines[..self.written.min(self.lines.len())]
+    }
 }
 
 // Plays the bytes through a transposer into a voice log over these lines. Whatever they are, every note that the log

@@ -1,51 +1,33 @@
--- The foremost of some notes, one note more at a time.
-use Rattle.std.proofs.Common.{◌≡◌, ℕ, ◌+◌, ◌<◌, Bool, true, false, cond, not, ◌&&◌, ◌||◌, List, [], ◌∷◌, ◌++◌, length, get_or, take, Some, None, Option, sym, refl, ap, ◌∙◌, subst, ap₂, append-nil}
+-- The foremost of some notes, and which of them sound.
+use Rattle.std.proofs.Common.{◌≡◌, Bool, true, false, cond, not, ◌&&◌, ◌||◌, List, [], ◌∷◌, ◌++◌, sym, refl, ap, ◌∙◌, subst, ap₂, append-nil, append_assoc}
+use Rattle.std.specs.List.{filter, fold, reduce}
 use mathlib.Core.Bool.{and-true}
-use Rattle.std.proofs.lemmas.List.{length-append}
 use Rattle.sink.proofs.Bools.{clash}
-use Rattle.std.proofs.lemmas.Bool.{and_parts}
+use Rattle.std.proofs.lemmas.Bool.{and_parts, and_left, and_right}
+use Rattle.std.proofs.Math.Bool.{and_assoc, or_self}
 use Rattle.roll.specs.declared.note.Note.{Note}
-use Rattle.roll.proofs.Table.{left_more}
-use Rattle.quota.specs.Orders.{leads, NoneLeads, Foremost, Chosen, better, sounding_among}
+use Rattle.roll.specs.Notes.{left_out}
+use Rattle.quota.specs.Orders.{leads, NoneLeads, Foremost, Chosen}
 
-and_assoc : (a b c : Bool) → (a && (b && c)) ≡ ((a && b) && c)
-and_assoc true b c = refl
-and_assoc false b c = refl
+flipped : (b : Bool) (xs ys : List Note) → cond b xs ys ≡ cond (not b) ys xs
+flipped true xs ys = refl
+flipped false xs ys = refl
 
-none_and : (a b : Bool) → a ≡ false → (a && b) ≡ false
-none_and true b e = clash true refl e
-none_and false b e = refl
+-- the notes that pass a test are those left without the others
+pub kept_by : (p : Note → Bool) (ns : List Note) → filter p ns ≡ left_out (λ n. not (p n)) ns
+unfolding left_out
+kept_by p [] = refl
+kept_by p (n ∷ ns) = ap (λ l. cond (p n) (n ∷ l) l) (kept_by p ns) ∙ flipped (p n) (n ∷ left_out (λ m. not (p m)) ns) (left_out (λ m. not (p m)) ns)
 
-and_none : (a b : Bool) → b ≡ false → (a && b) ≡ false
-and_none true b e = e
-and_none false b e = refl
-
-append_snoc : (xs ys : List Note) (m n : Note) → (xs ++ (m ∷ ys)) ++ (n ∷ []) ≡ xs ++ (m ∷ (ys ++ (n ∷ [])))
-append_snoc [] ys m n = refl
-append_snoc (x ∷ xs) ys m n = ap (λ r. x ∷ r) (append_snoc xs ys m n)
-
--- the notes that sound, one note further
-pub sounding_more : (sounds : ℕ → Bool) (ns : List Note) (i : ℕ) (d : Note) → i < length ns → (n : Note) → n ≡ get_or ns i d → (b : Bool) → sounds n.ticket ≡ b → sounding_among sounds (take (i + 1) ns) ≡ sounding_among sounds (take i ns) ++ cond (not b) [] (n ∷ [])
-sounding_more sounds ns i d lt n here b e =
-    left_more (λ m. not (sounds m.ticket)) ns i d lt
-    ∙ ap (λ m. sounding_among sounds (take i ns) ++ cond (not (sounds m.ticket)) [] (m ∷ [])) (sym here)
-    ∙ ap (λ x. sounding_among sounds (take i ns) ++ cond (not x) [] (n ∷ [])) e
-
-pub count_more : (sounds : ℕ → Bool) (ns : List Note) (i : ℕ) (d : Note) → i < length ns → (n : Note) → n ≡ get_or ns i d → sounds n.ticket ≡ true → length (sounding_among sounds (take (i + 1) ns)) ≡ length (sounding_among sounds (take i ns)) + 1
-count_more sounds ns i d lt n here e = ap length (sounding_more sounds ns i d lt n here true e) ∙ length-append (sounding_among sounds (take i ns)) (n ∷ [])
-
-pub count_skip : (sounds : ℕ → Bool) (ns : List Note) (i : ℕ) (d : Note) → i < length ns → (n : Note) → n ≡ get_or ns i d → sounds n.ticket ≡ false → length (sounding_among sounds (take (i + 1) ns)) ≡ length (sounding_among sounds (take i ns))
-count_skip sounds ns i d lt n here e = ap length (sounding_more sounds ns i d lt n here false e ∙ append-nil (sounding_among sounds (take i ns)))
+-- the better of two, the younger last
+abbrev pub first_of : (Note → Note → Bool) → Note → Note → Note
+first_of before m n = cond (before m n) m n
 
 module _ (before : Note → Note → Bool)
     (total : (m n : Note) → (before m n || before n m) ≡ true)
     (carries : (l m n : Note) → before l m ≡ true → before m n ≡ true → before l n ≡ true) where
   level : (n : Note) → before n n ≡ true
-  level n = go (before n n) (total n n)
-    where
-      go : (b : Bool) → (b || b) ≡ true → b ≡ true
-      go true e = refl
-      go false e = e
+  level n = sym (or_self (before n n)) ∙ total n n
 
   other : (m n : Note) → before m n ≡ false → before n m ≡ true
   other m n e = sym (ap (λ b. b || before n m) e) ∙ total m n
@@ -53,7 +35,7 @@ module _ (before : Note → Note → Bool)
   leads_snoc : (x n : Note) (l : List Note) → leads before x (l ++ (n ∷ [])) ≡ (leads before x l && before x n)
   unfolding leads
   leads_snoc x n [] = and-true (before x n)
-  leads_snoc x n (m ∷ l) = ap (λ b. before x m && b) (leads_snoc x n l) ∙ and_assoc (before x m) (leads before x l) (before x n)
+  leads_snoc x n (m ∷ l) = ap (λ b. before x m && b) (leads_snoc x n l) ∙ sym (and_assoc (before x m) (leads before x l) (before x n))
 
   through : (n m : Note) (l : List Note) → before n m ≡ true → leads before m l ≡ true → leads before n l ≡ true
   unfolding leads
@@ -63,7 +45,7 @@ module _ (before : Note → Note → Bool)
   none_snoc : (xs l : List Note) (n : Note) → NoneLeads before xs l → NoneLeads before xs (l ++ (n ∷ []))
   unfolding NoneLeads
   none_snoc [] l n h = tt
-  none_snoc (x ∷ xs) l n h = (leads_snoc x n l ∙ none_and (leads before x l) (before x n) h.0, none_snoc xs l n h.1)
+  none_snoc (x ∷ xs) l n h = (leads_snoc x n l ∙ and_left (leads before x l) (before x n) h.0, none_snoc xs l n h.1)
 
   -- what the best so far leads does not lead a note that goes before the best
   behind_one : (m n x : Note) → before m x ≡ true → before m n ≡ false → (b : Bool) → before x n ≡ b → b ≡ false
@@ -74,7 +56,7 @@ module _ (before : Note → Note → Bool)
   unfolding NoneLeads leads
   behind m n [] l e h = tt
   behind m n (x ∷ xs) l e h = (
-    leads_snoc x n l ∙ and_none (leads before x l) (before x n) (behind_one m n x (and_parts (before m x) (leads before m xs) h).0 e (before x n) refl),
+    leads_snoc x n l ∙ and_right (leads before x l) (before x n) (behind_one m n x (and_parts (before m x) (leads before m xs) h).0 e (before x n) refl),
     behind m n xs l e (and_parts (before m x) (leads before m xs) h).1,
   )
 
@@ -82,7 +64,7 @@ module _ (before : Note → Note → Bool)
   still m n l e f = record {
     older = f.older;
     younger = f.younger ++ (n ∷ []);
-    place = ap (λ r. r ++ (n ∷ [])) f.place ∙ append_snoc f.older f.younger m n;
+    place = ap (λ r. r ++ (n ∷ [])) f.place ∙ append_assoc f.older (m ∷ f.younger) (n ∷ []);
     leads_all = leads_snoc m n l ∙ ap₂ ◌&&◌ f.leads_all e;
     oldest = none_snoc f.older l n f.oldest;
   }
@@ -104,14 +86,11 @@ module _ (before : Note → Note → Bool)
   unfolding leads NoneLeads
   alone n = record { older = []; younger = []; place = refl; leads_all = and-true (before n n) ∙ level n; oldest = tt }
 
-  chosen_next : (best : Option Note) (n : Note) (l : List Note) → Chosen before l best → Chosen before (l ++ (n ∷ [])) (Some (better before best n))
-  chosen_next None n l c = subst (λ r. Foremost before (r ++ (n ∷ [])) n) (sym c) (alone n)
-  chosen_next (Some m) n l c = best_step m n l (before m n) refl c
+  further : (m : Note) (l ns : List Note) → Foremost before l m → Foremost before (l ++ ns) (fold (first_of before) m ns)
+  further m l [] f = subst (λ r. Foremost before r m) (sym (append-nil l)) f
+  further m l (n ∷ ns) f =
+      subst (λ r. Foremost before r (fold (first_of before) (first_of before m n) ns)) (append_assoc l (n ∷ []) ns) (further (first_of before m n) (l ++ (n ∷ [])) ns (best_step m n l (before m n) refl f))
 
-  -- a loop over a roll's notes, one note further
-  module _ (sounds : ℕ → Bool) (ns : List Note) (i : ℕ) (d : Note) (lt : i < length ns) (n : Note) (here : n ≡ get_or ns i d) (best : Option Note) (c : Chosen before (sounding_among sounds (take i ns)) best) where
-    pub chosen_more : sounds n.ticket ≡ true → Chosen before (sounding_among sounds (take (i + 1) ns)) (Some (better before best n))
-    chosen_more e = subst (λ l. Chosen before l (Some (better before best n))) (sym (sounding_more sounds ns i d lt n here true e)) (chosen_next best n (sounding_among sounds (take i ns)) c)
-
-    pub chosen_skip : sounds n.ticket ≡ false → Chosen before (sounding_among sounds (take (i + 1) ns)) best
-    chosen_skip e = subst (λ l. Chosen before l best) (sym (sounding_more sounds ns i d lt n here false e ∙ append-nil (sounding_among sounds (take i ns)))) c
+  pub chosen : (ns : List Note) → Chosen before ns (reduce (first_of before) ns)
+  chosen [] = refl
+  chosen (n ∷ ns) = further n (n ∷ []) ns (alone n)

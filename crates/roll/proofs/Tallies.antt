@@ -1,8 +1,8 @@
 -- Counting the tickets that sound.
-use Rattle.std.proofs.Common.{◌≡◌, ℕ, zero, suc, ◌+◌, ◌<◌, ◌≤◌, Bool, true, false, cond, eqb, List, [], ◌∷◌, length, set, replicate, is_some, Some, None, Option, sym, refl, ap, ⊎_elim, le_of_suc-le-suc, not-suc-le-zero, arith}
-use lib.Dec.{eqb-suc-zero, eqb-zero-suc, eqb-suc-suc}
-use Rattle.std.proofs.lemmas.List.{set_past}
-use Rattle.std.proofs.lemmas.Bool.{cases_lt}
+use Rattle.std.proofs.Common.{◌≡◌, ℕ, zero, suc, ◌+◌, ◌<◌, ◌≤◌, Bool, true, false, cond, eqb, List, [], ◌∷◌, length, set, replicate, is_some, Some, None, Option, refl, ap, le_of_suc-le-suc, not-suc-le-zero, arith}
+use Rattle.std.proofs.lemmas.Bool.Decides.{nat_tests}
+use Rattle.std.proofs.lemmas.Grind.{common_steps}
+use Rattle.std.proofs.lemmas.List.{set_past, get_or_past, set-get_or}
 use Rattle.roll.specs.Voices.{one, voice, passes, sounding_with}
 
 pub one_le : (b : Bool) → one b ≤ 1
@@ -14,29 +14,19 @@ sounds_at_all None = refl
 sounds_at_all (Some v) = refl
 
 pub none_there : {V : Type 0} (n u : ℕ) → voice (replicate {A = Option V} n None) u ≡ None
-none_there zero u = refl
-none_there (suc n) zero = refl
-none_there (suc n) (suc u) = none_there n u
+none_there {V} n u = grind (arith, common_steps)
 
 -- a ticket that sounds is one of those in the list
 pub at_some : {V : Type 0} (xs : List (Option V)) (i : ℕ) (v : V) → voice xs i ≡ Some v → i < length xs
-at_some [] i v e = let z : ◌≡◌ {A = ℕ} 0 1 = ap (λ x. one (is_some x)) e in absurd (omega arith)
-at_some (x ∷ xs) zero v e = omega arith
-at_some (x ∷ xs) (suc i) v e = let h = at_some xs i v e in omega arith
+at_some xs i v e = grind (arith, get_or_past xs i None)
 
 -- a silent ticket that is stopped changes nothing
 pub set_none : {V : Type 0} (xs : List (Option V)) (i : ℕ) → voice xs i ≡ None → set xs i None ≡ xs
-set_none [] i e = refl
-set_none (x ∷ xs) zero e = ap (λ y. y ∷ xs) (sym e)
-set_none (x ∷ xs) (suc i) e = ap (λ r. x ∷ r) (set_none xs i e)
+set_none xs i e = grind (arith, set-get_or xs i None)
 
 -- one ticket written, another read
 pub at_set : {V : Type 0} (xs : List (Option V)) (i u : ℕ) (x : Option V) → i < length xs → voice (set xs i x) u ≡ cond (eqb i u) x (voice xs u)
-at_set [] i u x h = absurd (not-suc-le-zero h)
-at_set (y ∷ xs) zero zero x h = refl
-at_set (y ∷ xs) zero (suc u) x h = rw eqb-zero-suc refl
-at_set (y ∷ xs) (suc i) zero x h = rw eqb-suc-zero refl
-at_set (y ∷ xs) (suc i) (suc u) x h = rw eqb-suc-suc (at_set xs i u x (le_of_suc-le-suc h))
+at_set xs i u x h = grind (arith, nat_tests, common_steps)
 
 module _ {V : Type 0} (p : V → Bool) where
   -- a ticket is written: the count moves by what it was and what it is
@@ -63,23 +53,13 @@ module _ {V : Type 0} (p : V → Bool) where
   with_none zero = refl
   with_none (suc n) = let e = with_none n in omega arith
 
-  stop_step : (xs : List (Option V)) (i : ℕ) (x : Option V) → voice xs i ≡ x → sounding_with p (set xs i None) + one (passes p x) ≡ sounding_with p xs
-  stop_step xs i None e = let q = ap (sounding_with p) (set_none xs i e) in omega arith
-  stop_step xs i (Some v) e =
-      let q = with_set xs i None (at_some xs i v e) in
-      let o : one (passes p (voice xs i)) ≡ one (p v) = ap (λ x. one (passes p x)) e in
-      omega arith
-
   -- it falls silent: one fewer is counted, if it was
   pub with_stop : (xs : List (Option V)) (i : ℕ) → sounding_with p (set xs i None) + one (passes p (voice xs i)) ≡ sounding_with p xs
-  with_stop xs i = stop_step xs i (voice xs i) refl
+  with_stop xs i = grind (arith, nat_tests, with_set xs i None, set_past xs i None, get_or_past xs i None)
 
   -- a ticket begins to sound: one more is counted at most
   pub with_begin : (xs : List (Option V)) (i : ℕ) (v : V) → sounding_with p (set xs i (Some v)) ≤ sounding_with p xs + 1
-  with_begin xs i v =
-      let o : one (p v) ≤ 1 = one_le (p v) in
-      ⊎_elim (λ h. let q = with_set xs i (Some v) h in omega arith)
-      (λ h. let e : sounding_with p (set xs i (Some v)) ≡ sounding_with p xs = ap (sounding_with p) (set_past xs i (Some v) h) in omega arith) (cases_lt i (length xs))
+  with_begin xs i v = grind (arith, one_le (p v), with_set xs i (Some v), set_past xs i (Some v))
 
   -- where no voice passes, none is counted
   pub with_gone : (xs : List (Option V)) → ((u : ℕ) (v : V) → voice xs u ≡ Some v → p v ≡ false) → sounding_with p xs ≡ 0

@@ -3,7 +3,7 @@ ghost use Rattle.roll.specs.Notes.{picked};
 
 // A started note. Its ticket is what the sink answered to the start.
 // `kept` marks a note whose release was taken here and is not yet handed on.
-#[derive(Clone, Copy, Debug)]
+#[derive(Clone, Copy, Debug, Eq, PartialEq)]
 pub struct Note {
     pub ticket: u16,
     pub channel: u8,
@@ -23,6 +23,7 @@ impl Note {
 }
 
 // Which notes of a roll are meant: that of a ticket, all of a channel, all that are kept, or those kept on a channel.
+// This is no closure: each call that took one would have to be told the predicate that it computes, too.
 #[derive(Clone, Copy, Debug)]
 pub enum Pick {
     Ticket(u16),
@@ -40,7 +41,7 @@ impl Pick {
             Pick::Ticket(ticket) => note.ticket == ticket,
             Pick::On(channel) => note.channel == channel,
             Pick::Kept => note.kept,
-            Pick::KeptOn(channel) => note.kept & (note.channel == channel),
+            Pick::KeptOn(channel) => note.kept && note.channel == channel,
         }
     }
 }

@@ -1,14 +1,12 @@
 -- What a chain of releases does to the meaning of the sink below.
-use Rattle.std.proofs.Common.{◌≡◌, ℕ, Bool, true, false, not, ◌&&◌, ◌||◌, eqb, List, [], ◌∷◌, ◌++◌, sym, refl, ap, ◌∙◌, subst}
-use mathlib.Core.Bool.{and-true, or-false}
+use Rattle.std.proofs.Common.{◌≡◌, ℕ, true, false, not, ◌&&◌, ◌||◌, List, [], ◌∷◌, ◌++◌, sym, refl, subst, arith}
+use mathlib.Core.Bool.{and-true}
+use Rattle.std.proofs.lemmas.Bool.Decides.{nat_tests}
 use Rattle.sink.specs.Faults.{Denial}
 use Rattle.sink.specs.Calls.{Call, Release, Answer, ticket, done, denied}
 use Rattle.sink.specs.Meaning.{Meaning, is_ready, Ended, Means}
-use Rattle.sink.proofs.Bools.{same_or}
-use Rattle.std.proofs.lemmas.Bool.{or_parts}
 use Rattle.rolled.specs.Chains.{named, Releases, no_release, one_release}
 use Rattle.rolled.proofs.Below.{Lawful}
-use Rattle.rolled.proofs.Notes.{without_two}
 
 -- the tickets ks are owed no more; every other ticket stands
 pub record Gone (ks : List ℕ) (m m' : Meaning) : Type 0 where
@@ -18,14 +16,10 @@ pub record Gone (ks : List ℕ) (m m' : Meaning) : Type 0 where
   pub sounding : (u : ℕ) → named ks u ≡ false → m'.sounding u ≡ m.sounding u
   pub quiet : (u : ℕ) → m'.sounding u ≡ true → m.sounding u ≡ true
 
-or_assoc : (a b c : Bool) → ((a || b) || c) ≡ (a || (b || c))
-or_assoc true b c = refl
-or_assoc false b c = refl
-
 pub named_append : (ks js : List ℕ) (u : ℕ) → named (ks ++ js) u ≡ (named ks u || named js u)
 unfolding named
 named_append [] js u = refl
-named_append (k ∷ ks) js u = ap (λ b. eqb k u || b) (named_append ks js u) ∙ sym (or_assoc (eqb k u) (named ks u) (named js u))
+named_append (k ∷ ks) js u = grind (arith, nat_tests, named_append ks js u)
 
 gone_none : (m : Meaning) → Gone [] m m
 unfolding named
@@ -40,9 +34,9 @@ gone_none m = record {
 gone_join : (ks js : List ℕ) (m m' m'' : Meaning) → Gone ks m m' → Gone js m' m'' → Gone (ks ++ js) m m''
 gone_join ks js m m' m'' g h = record {
   ready = λ e. h.ready (g.ready e);
-  owed = λ u. h.owed u ∙ ap (λ b. b && not (named js u)) (g.owed u) ∙ without_two (m.owed u) (named ks u) (named js u) ∙ ap (λ b. m.owed u && not b) (sym (named_append ks js u));
-  kept = λ u e. let f = sym (named_append ks js u) ∙ e in h.kept u (or_parts (named ks u) (named js u) f).1 ∙ g.kept u (or_parts (named ks u) (named js u) f).0;
-  sounding = λ u e. let f = sym (named_append ks js u) ∙ e in h.sounding u (or_parts (named ks u) (named js u) f).1 ∙ g.sounding u (or_parts (named ks u) (named js u) f).0;
+  owed = λ u. grind (arith, nat_tests, g.owed u, h.owed u, named_append ks js u);
+  kept = λ u e. grind (arith, nat_tests, g.kept u, h.kept u, named_append ks js u);
+  sounding = λ u e. grind (arith, nat_tests, g.sounding u, h.sounding u, named_append ks js u);
   quiet = λ u e. g.quiet u (h.quiet u e);
 }
 
@@ -51,10 +45,10 @@ one_ended : (k : ℕ) (m m' : Meaning) → Ended m k m' → Gone (k ∷ []) m m'
 unfolding named
 one_ended k m m' e = record {
   ready = e.ready;
-  owed = λ u. e.owed u ∙ ap (λ b. m.owed u && not b) (sym (or-false (eqb k u)));
-  kept = λ u f. e.kept u (or_parts (eqb k u) false f).0;
-  sounding = λ u f. e.sounding u (or_parts (eqb k u) false f).0;
-  quiet = λ u. same_or (λ v. m'.sounding v ≡ true → m.sounding v ≡ true) k u e.stays_silent (λ f q. sym (e.sounding u f) ∙ q);
+  owed = λ u. grind (arith, nat_tests, e.owed u);
+  kept = λ u f. grind (arith, nat_tests, e.kept u);
+  sounding = λ u f. grind (arith, nat_tests, e.sounding u);
+  quiet = λ u f. grind (arith, nat_tests, e.stays_silent, e.sounding u);
 }
 
 -- one that is not owed changes nothing
@@ -62,7 +56,7 @@ one_denied : (k : ℕ) (m : Meaning) → m.owed k ≡ false → Gone (k ∷ []) 
 unfolding named
 one_denied k m not_owed = record {
   ready = λ e. e;
-  owed = λ u. same_or (λ v. m.owed v ≡ (m.owed v && not (eqb k v || false))) k u (not_owed ∙ sym (ap (λ b. b && not (eqb k k || false)) not_owed)) (λ f. sym (ap (λ b. m.owed u && not (b || false)) f ∙ and-true (m.owed u)));
+  owed = λ u. grind (arith, nat_tests);
   kept = λ u f. refl;
   sounding = λ u f. refl;
   quiet = λ u e. e;

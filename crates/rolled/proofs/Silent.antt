@@ -1,10 +1,11 @@
 -- What a chain of hushes does to the meaning of the sink below.
-use Rattle.std.proofs.Common.{◌≡◌, ℕ, Bool, true, false, cond, not, ◌&&◌, ◌||◌, eqb, List, [], ◌∷◌, ◌++◌, sym, refl, ap, ◌∙◌, subst, eqb-true}
+use Rattle.std.proofs.Common.{◌≡◌, ℕ, Bool, true, false, cond, not, ◌&&◌, ◌||◌, eqb, List, [], ◌∷◌, ◌++◌, sym, refl, ap, ◌∙◌, subst, arith}
 use mathlib.Core.Bool.{and-false}
+use Rattle.std.proofs.lemmas.Bool.Decides.{nat_tests}
 use Rattle.sink.specs.Faults.{Denial}
 use Rattle.sink.specs.Calls.{Call, Hush, Answer, ticket, done, denied}
 use Rattle.sink.specs.Meaning.{Meaning, Began, Quieter, Means}
-use Rattle.sink.proofs.Bools.{clash, refuted, self_eq}
+use Rattle.sink.proofs.Bools.{clash, self_eq}
 use Rattle.std.proofs.lemmas.Bool.{and_parts}
 use Rattle.rolled.specs.Chains.{named, Hushes, no_hush, one_hush}
 use Rattle.rolled.proofs.Below.{Lawful}
@@ -76,23 +77,14 @@ module _ {S F : Type 0} {sees : F → Denial} {meaning : S → Meaning} {sound :
 
   silent_step : (m m' : Meaning) (ks : List ℕ) (k : ℕ) → Silenced m m' → ((u : ℕ) → named ks u ≡ true → m.sounding u ≡ false) → m'.sounding k ≡ false → (u : ℕ) → named (ks ++ (k ∷ [])) u ≡ true → m'.sounding u ≡ false
   unfolding named
-  silent_step m m' ks k w before last u e = go (named ks u) (eqb k u) refl refl (sym (named_append ks (k ∷ []) u) ∙ e)
-    where
-      go : (x y : Bool) → named ks u ≡ x → eqb k u ≡ y → (named ks u || (eqb k u || false)) ≡ true → m'.sounding u ≡ false
-      go true y p q f = refuted (m'.sounding u) (m.sounding u) (w.sounding u) (before u p)
-      go false true p q f = ap m'.sounding (sym (eqb-true k u q)) ∙ last
-      go false false p q f = clash false (sym (ap (λ b. b || (eqb k u || false)) p ∙ ap (λ b. b || false) q) ∙ f) refl
+  silent_step m m' ks k w before last u e = grind (arith, nat_tests, w.sounding u, before u, named_append ks (k ∷ []) u)
 
   -- after a chain of hushes of owed tickets the sink is sound, and none of them sounds
   pub silenced : {p : ℕ} {ks : List ℕ} {s t : S} → Hushes meaning does p ks s t → sound s → ((u : ℕ) → named ks u ≡ true → (meaning s).owed u ≡ true) → sound t × Silenced (meaning s) (meaning t) × ((u : ℕ) → named ks u ≡ true → (meaning t).sounding u ≡ false)
   unfolding named
   silenced {p} {ks} {s} no_hush h o = (h, silenced_none (meaning s), λ u e. clash false e refl)
   silenced {p} (one_hush {s} {t} {u} {ks} k r d) h o =
-      let before = silenced r h (λ v e. o v (named_append ks (k ∷ []) v ∙ ap (λ b. b || (eqb k v || false)) e)) in
+      let before = silenced r h (λ v e. o v (grind (arith, nat_tests, named_append ks (k ∷ []) v))) in
       let one = hush_one_lem p k t u ((meaning t).sounding k) refl d before.0 in
-      let last = one.2 (before.1.owed k ∙ o k (named_append ks (k ∷ []) k ∙ ap (λ b. named ks k || (b || false)) (self_eq k) ∙ all (named ks k))) in
+      let last = one.2 (before.1.owed k ∙ o k (grind (arith, nat_tests, named_append ks (k ∷ []) k))) in
       (one.0, silenced_then (meaning s) (meaning t) (meaning u) before.1 one.1, silent_step (meaning t) (meaning u) ks k one.1 before.2 last)
-    where
-      all : (b : Bool) → (b || true) ≡ true
-      all true = refl
-      all false = refl

@@ -1,12 +1,11 @@
 -- A layer's own work before it hands a call on: what it does to the layer's meaning.
-use Rattle.std.proofs.Common.{◌≡◌, ℕ, Bool, true, false, not, ◌&&◌, ◌||◌, List, sym, refl, ap, ◌∙◌, subst, ap₂}
-use mathlib.Core.Bool.{or-true}
+use Rattle.std.proofs.Common.{◌≡◌, ℕ, Bool, true, false, not, ◌&&◌, ◌||◌, List, sym, refl, ap, ◌∙◌, subst, ap₂, arith}
+use Rattle.std.proofs.lemmas.Bool.Decides.{nat_tests}
 use Rattle.sink.specs.Faults.{Denial}
 use Rattle.sink.specs.Calls.{Call, Start, Release, Hush, Tell, Set, Clear, Answer, ticket, done, denied, startable, tellable}
 use Rattle.sink.specs.Meaning.{Meaning, Readiness, is_ready, refuses, Quieter, Means}
 use Rattle.sink.specs.Layered.{ready_over, layered}
 use Rattle.sink.proofs.Bools.{clash}
-use Rattle.std.proofs.lemmas.Bool.{and_parts, not-true, or_parts}
 use Rattle.sink.proofs.Handed.{IfDenied, ready_steps, not_ready, refused, quieter_then}
 use Rattle.roll.specs.declared.note.Note.{Note}
 use Rattle.roll.specs.declared.note.Pick.{Pick}
@@ -19,7 +18,7 @@ use Rattle.rolled.specs.Chains.{tickets_of, named, LetGo, Hushed}
 use Rattle.rolled.proofs.Below.{Lawful}
 use Rattle.rolled.proofs.Gone.{Gone, gone}
 use Rattle.rolled.proofs.Silent.{Silenced, silenced, began_after}
-use Rattle.rolled.proofs.Notes.{without_two, lists_left, distinct_left, keeps_left, named_listed}
+use Rattle.rolled.proofs.Notes.{lists_left, distinct_left, keeps_left, named_listed}
 
 -- readiness as a test
 pub yes_ready : (r : Readiness) → says_yes r ≡ true → r ≡ is_ready
@@ -85,23 +84,16 @@ module _ {L R F : Type 0} (sees : F → Denial) (meaning : R → Meaning) (part 
 
 -- some notes kept here are released below and leave the roll: they are kept no more, and all else stands
 module _ (ns : List Note) (m m' : Meaning) (once : Distinct ns) (p : Note → Bool) (only_kept : (n : Note) → p n ≡ true → n.kept ≡ true) (g : Gone (tickets_of p ns) m m') where
-  kept_within : (a a' k k' w : Bool) → (w ≡ false → a' ≡ a) → k ≡ (w || k') → (a' || k') ≡ true → (a || k) ≡ true
-  kept_within a a' k k' true f e h = ap (λ x. a || x) e ∙ or-true a
-  kept_within a a' k k' false f e h = ap₂ ◌||◌ (sym (f refl)) e ∙ h
-
-  unnamed : (o w k k' : Bool) → k ≡ (w || k') → (o && not k) ≡ true → w ≡ false
-  unnamed o w k k' e h = (or_parts w k' (sym e ∙ not-true k (and_parts o (not k) h).1)).0
-
   quieter : Quieter (layered (full ns) (keeps ns) m) (layered (full (left_out p ns)) (keeps (left_out p ns)) m')
   quieter = record {
     ready = ready_steps (full ns) (full (left_out p ns)) m.ready m'.ready (full_left p ns) g.ready;
-    owed = λ u. ap (λ b. b && not (keeps (left_out p ns) u)) (g.owed u) ∙ without_two (m.owed u) (named (tickets_of p ns) u) (keeps (left_out p ns) u) ∙ ap (λ b. m.owed u && not b) (sym (keeps_left p ns u only_kept once));
-    kept = λ u. kept_within (m.kept u) (m'.kept u) (keeps ns u) (keeps (left_out p ns) u) (named (tickets_of p ns) u) (g.kept u) (keeps_left p ns u only_kept once);
+    owed = λ u. grind (arith, nat_tests, g.owed u, keeps_left p ns u only_kept once);
+    kept = λ u. grind (arith, nat_tests, g.kept u, keeps_left p ns u only_kept once);
     sounding = g.quiet;
   }
 
   owed_sounds : (u : ℕ) → (layered (full ns) (keeps ns) m).owed u ≡ true → m'.sounding u ≡ m.sounding u
-  owed_sounds u e = g.sounding u (unnamed (m.owed u) (named (tickets_of p ns) u) (keeps ns u) (keeps (left_out p ns) u) (keeps_left p ns u only_kept once) e)
+  owed_sounds u e = grind (arith, nat_tests, g.sounding u, keeps_left p ns u only_kept once)
 
 -- what a layer's own work leads to
 pub record Worked {S : Type 0} (meaning : S → Meaning) (sound : S → Type 0) (r r' : Rolled S) : Type 0 where

@@ -1,6 +1,6 @@
 ghost use Rattle.std.specs.Prelude.{◌≡◌, length};
 
-// One switch for each of the 16 channels.
+// One switch for each of the 16 channels, in fixed memory.
 #[derive(Drop)]
 pub struct Switches {
     on: [bool; 16],

@@ -1,4 +1,5 @@
 pub mod Turns
 pub mod Tables
 pub mod Notes
+pub mod Sweeps
 pub mod Left

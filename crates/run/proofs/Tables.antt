@@ -7,13 +7,13 @@ use Rattle.run.specs.Counting.{at}
 use Rattle.run.specs.Past.{one_if, tickets, Owes}
 
 pub none_some : {o : Option ℕ} {t : ℕ} → o ≡ None → o ≡ Some t → ⊥
-none_some p q = let z : ◌≡◌ {A = ℕ} 0 1 = cc in omega arith
+none_some p q = cc
 
 pub some_same : {o : Option ℕ} {t u : ℕ} → o ≡ Some t → o ≡ Some u → t ≡ u
 some_same p q = cc
 
 pub true_false : {b : Bool} → b ≡ true → b ≡ false → ⊥
-true_false p q = let z : ◌≡◌ {A = ℕ} 0 1 = cc in omega arith
+true_false p q = cc
 
 pub false_if : (b : Bool) → (b ≡ true → ⊥) → b ≡ false
 false_if true no_true = absurd (no_true refl)

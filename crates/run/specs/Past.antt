@@ -3,10 +3,10 @@ use Rattle.std.specs.Prelude.{◌≡◌, ℕ, ◌+◌, ◌<◌, ◌≤◌, true,
 use Rattle.std.specs.List.{AllByRecursion}
 use Rattle.sink.specs.declared.fault.refusal.Refusal
 use Rattle.sink.specs.declared.sink.Sink
-use Rattle.sink.specs.Calls.{Call, Set, Clear, Answer, ticket, done, denied}
+use Rattle.sink.specs.Calls.{Set, Clear, Answer, ticket, done, denied}
 use Rattle.sink.specs.Meaning.{Meaning, is_ready, refuses, Idle}
 use Rattle.sink.specs.Faults.{Denial}
-use Rattle.sink.specs.Ends.{End, Each, clean, complete}
+use Rattle.sink.specs.Ends.{Each, clean, complete}
 use Rattle.reader.specs.Rules.{reads, reaches}
 use Rattle.reader.specs.Laws.{note_ons_of}
 use Rattle.reader.specs.declared.states.State.TheVariants as s
@@ -76,15 +76,15 @@ pub record Agree {F : Type 0} (sees : F → Denial) (y : Counts F) (T : List (Op
   pub returned : y.returned ≡ number returned_in es
   pub fair : AllByRecursion (Fair sees) es
 
-module _ {S F : Type 0} (sees : F → Denial) (meaning : S → Meaning) (sound : S → Type 0) (does : S → Call → Answer F → S → Type 0) (ends : S → List End) where
-  -- after a close besides: no ticket is left in any of the three sets, and every note begun is stopped
-  pub record Rests (stack : S) (tally : Tally F) : Type 0 where
-    pub sound_left : sound stack
-    pub idle : Idle (meaning stack)
-    pub even : tally.taken ≡ tally.returned
-    pub complete : Each complete (ends stack)
+-- after a close besides: no ticket is left in any of the three sets, and every note begun is stopped
+pub record Rests {S F : Type 0} (gs : Sink.Ghosts S F) (stack : S) (tally : Tally F) : Type 0 where
+  pub sound_left : gs.sound stack
+  pub idle : Idle (gs.meaning stack)
+  pub even : tally.taken ≡ tally.returned
+  pub complete : Each complete (gs.ends stack)
 
-module _ {S F : Type 0} {gs : Sink.Ghosts S F} {gf : Refusal.Ghosts F} (sees : F → Denial) (meaning : S → Meaning) (sound : S → Type 0) (does : S → Call → Answer F → S → Type 0) (ends : S → List End) where
+-- a run's type carries what its stack and the stack's fault mean, gs and gf, and the relations read it there
+module _ {S F : Type 0} {gs : Sink.Ghosts S F} {gf : Refusal.Ghosts F} where
   -- ---- the calls of a run
 
   pub record Opened (over : S) (r : Run S F gs gf) : Type 0 where
@@ -96,7 +96,7 @@ module _ {S F : Type 0} {gs : Sink.Ghosts S F} {gf : Refusal.Ghosts F} (sees : F
 
   pub record Fed (bytes : List ℕ) (r : Run S F gs gf) (es : List (Event F)) (r' : Run S F gs gf) : Type 0 where
     pub fits : r.count + length bytes ≤ 4000000000
-    pub played : Played meaning does (reads r.reader.state r.count bytes) r.player es r'.player
+    pub played : Played (reads r.reader.state r.count bytes) r.player es r'.player
     pub state : r'.reader.state ≡ reaches r.reader.state bytes
     pub count : r'.count ≡ r.count + length bytes
 
@@ -107,7 +107,7 @@ module _ {S F : Type 0} {gs : Sink.Ghosts S F} {gf : Refusal.Ghosts F} (sees : F
 
   -- the stack is set at the place reached
   pub record Sets (depth item : ℕ) (value : ℤ) (r : Run S F gs gf) (a : Answer F) (r' : Run S F gs gf) : Type 0 where
-    pub call : does r.player.stack (Set r.count depth item value) a r'.player.stack
+    pub call : gs.does r.player.stack (Set r.count depth item value) a r'.player.stack
     pub table : r'.player.table ≡ r.player.table
     pub counts : r'.player.counts ≡ r.player.counts
     pub state : r'.reader.state ≡ r.reader.state
@@ -115,7 +115,7 @@ module _ {S F : Type 0} {gs : Sink.Ghosts S F} {gf : Refusal.Ghosts F} (sees : F
 
   -- all tickets are released at the place reached, and then the stack is cleared
   pub record Closed (r : Run S F gs gf) (es : List (Event F)) (b : Player S F gs gf) (tally : Tally F) (left : S) : Type 0 where
-    pub swept : SweptThen meaning does r.count 0 2048 (Clear r.count) r.player es b
+    pub swept : SweptThen r.count 0 2048 (Clear r.count) r.player es b
     pub answered : tally ≡ tally_of r.count b.counts
     pub stack : left ≡ b.stack
 
@@ -126,7 +126,7 @@ module _ {S F : Type 0} {gs : Sink.Ghosts S F} {gf : Refusal.Ghosts F} (sees : F
   -- with the bytes of the feeds taken, and the starts and releases so far
 
   pub data Past : Run S F gs gf → List ℕ → List (Event F) → Type 0 where
-    opened : {r : Run S F gs gf} (stack : S) → sound stack → Idle (meaning stack) → Opened stack r → Past r [] []
+    opened : {r : Run S F gs gf} (stack : S) → gs.sound stack → Idle (gs.meaning stack) → Opened stack r → Past r [] []
     fed : {r r' : Run S F gs gf} {bytes : List ℕ} {es es' : List (Event F)} (piece : List ℕ) → Past r bytes es → Fed piece r es' r' → Past r' (bytes ++ piece) (es ++ es')
     fed_denied : {r r' : Run S F gs gf} {bytes : List ℕ} {es : List (Event F)} (e : TooManyBytes) (piece : List ℕ) → Past r bytes es → Feeds piece r (Err e) r' → Past r' bytes es
     set : {r r' : Run S F gs gf} {bytes : List ℕ} {es : List (Event F)} {a : Answer F} (depth item : ℕ) (value : ℤ) → Past r bytes es → Sets depth item value r a r' → Past r' bytes es
@@ -134,13 +134,13 @@ module _ {S F : Type 0} {gs : Sink.Ghosts S F} {gf : Refusal.Ghosts F} (sees : F
 
   -- after every past
   pub record Stands (b : Player S F gs gf) (bytes : List ℕ) (es : List (Event F)) : Type 0 where
-    pub owes : Owes (meaning b.stack) b.table
-    pub agree : Agree sees b.counts b.table bytes es
-    pub clean : Each clean (ends b.stack)
+    pub owes : Owes (gs.meaning b.stack) b.table
+    pub agree : Agree gf.denial b.counts b.table bytes es
+    pub clean : Each clean (gs.ends b.stack)
 
   pub record Closes (bytes : List ℕ) (es : List (Event F)) (b : Player S F gs gf) (tally : Tally F) (stack : S) : Type 0 where
     pub stands : Stands b bytes es
-    pub rests : Rests sees meaning sound does ends stack tally
+    pub rests : Rests gs stack tally
 
   -- of one run: after every past the first, after a past and a close both
   abbrev pub PastStands : Run S F gs gf → Type 0
@@ -150,9 +150,9 @@ module _ {S F : Type 0} {gs : Sink.Ghosts S F} {gf : Refusal.Ghosts F} (sees : F
   PastCloses r tally stack = (bytes : List ℕ) (es : List (Event F)) → Past r bytes es → (es' : List (Event F)) × (b : Player S F gs gf) × Closed r es' b tally stack × Closes bytes (es ++ es') b tally stack
 
 -- no note is left: after every past of any run the first, after a past and a close both
-module _ {S F : Type 0} (gs : Sink.Ghosts S F) (gf : Refusal.Ghosts F) (sees : F → Denial) (meaning : S → Meaning) (sound : S → Type 0) (does : S → Call → Answer F → S → Type 0) (ends : S → List End) where
+module _ {S F : Type 0} (gs : Sink.Ghosts S F) (gf : Refusal.Ghosts F) where
   abbrev pub NoNoteLeft : Type 0
   NoNoteLeft =
-      (r : Run S F gs gf) (bytes : List ℕ) (es : List (Event F)) → Past sees meaning sound does ends r bytes es →
-      Stands sees meaning sound does ends r.player bytes es ×
-      ((es' : List (Event F)) (b : Player S F gs gf) (tally : Tally F) (stack : S) → Closed sees meaning sound does ends r es' b tally stack → Closes sees meaning sound does ends bytes (es ++ es') b tally stack)
+      (r : Run S F gs gf) (bytes : List ℕ) (es : List (Event F)) → Past r bytes es →
+      Stands r.player bytes es ×
+      ((es' : List (Event F)) (b : Player S F gs gf) (tally : Tally F) (stack : S) → Closed r es' b tally stack → Closes bytes (es ++ es') b tally stack)

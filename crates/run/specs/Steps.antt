@@ -3,7 +3,7 @@ use Rattle.std.specs.Prelude.{◌≡◌, ℕ, ◌+◌, ◌*◌, ◌⊎◌, List,
 use Rattle.sink.specs.declared.fault.refusal.Refusal
 use Rattle.sink.specs.declared.sink.Sink
 use Rattle.sink.specs.Calls.{Call, Start, Release, Tell, Clear, Answer}
-use Rattle.sink.specs.Meaning.{Meaning, Readiness}
+use Rattle.sink.specs.Meaning.{Readiness}
 use Rattle.reader.specs.declared.items.Message.{Message}
 use Rattle.reader.specs.declared.items.Message.TheVariants as m
 use Rattle.reader.specs.Rules.{Reading, message, part}
@@ -26,12 +26,13 @@ InRanges (part p xs) = Unit {0}
 abbrev pub unchanged : {F : Type 0} → Counts F → Counts F
 unchanged y = y
 
-module _ {S F : Type 0} {gs : Sink.Ghosts S F} {gf : Refusal.Ghosts F} (meaning : S → Meaning) (does : S → Call → Answer F → S → Type 0) where
+-- a player's type carries what its stack and the stack's fault mean, gs and gf, and the relations read it there
+module _ {S F : Type 0} {gs : Sink.Ghosts S F} {gf : Refusal.Ghosts F} where
   -- the ticket t, at place i of the table, is released
   pub record Returned (place i t v : ℕ) (b : Player S F gs gf) (es : List (Event F)) (b' : Player S F gs gf) : Type 0 where
     pub held : at b.table i ≡ Some t
     pub answer : Answer F
-    pub call : does b.stack (Release place t v) answer b'.stack
+    pub call : gs.does b.stack (Release place t v) answer b'.stack
     pub table : b'.table ≡ slice_set b.table i None
     pub counts : b'.counts ≡ returned_by answer b.counts
     pub events : es ≡ release t answer ∷ []
@@ -46,15 +47,15 @@ module _ {S F : Type 0} {gs : Sink.Ghosts S F} {gf : Refusal.Ghosts F} (meaning 
   -- a start, and its answer goes into the table or is counted as a denial
   pub record Started (place c k v : ℕ) (b : Player S F gs gf) (es : List (Event F)) (b' : Player S F gs gf) : Type 0 where
     pub answer : Answer F
-    pub call : does b.stack (Start place c k v) answer b'.stack
+    pub call : gs.does b.stack (Start place c k v) answer b'.stack
     pub table : b'.table ≡ entered (spot c k) answer b.table
     pub counts : b'.counts ≡ started_by place c k answer b.counts
-    pub events : es ≡ start (meaning b.stack).ready answer ∷ []
+    pub events : es ≡ start (gs.meaning b.stack).ready answer ∷ []
 
   -- another call; the table and the counts stay
   pub record Called (c : Call) (b : Player S F gs gf) (es : List (Event F)) (b' : Player S F gs gf) : Type 0 where
     pub answer : Answer F
-    pub call : does b.stack c answer b'.stack
+    pub call : gs.does b.stack c answer b'.stack
     pub table : b'.table ≡ b.table
     pub counts : b'.counts ≡ b.counts
     pub events : es ≡ []

@@ -7,7 +7,8 @@ pub struct DeniedStart<F> {
     pub key: u8,
 }
 
-// What a run has counted.
+// What a run has counted. A type beside `Tally`, since the count of bytes goes its own way: in one type, each step of a
+// run would have to say that it leaves the bytes as they are. With this one inside `Tally`, callers would name two levels.
 #[derive(Clone, Copy, Debug)]
 pub struct Counts<F> {
     pub note_ons: u64,

@@ -6,6 +6,7 @@ mod tests {
     use playing::log;
     use playing::text::text;
     use run::{Run, TooManyBytes};
+    use sink::calls::Setting;
     use sink::fault::{Cause, LayerFault};
     use sink::sink::Sink;
     use std::test::Fail;
@@ -18,7 +19,7 @@ mod tests {
     fn second_note_on_denied(rt: HostRuntime) -> Result<(), Fail> {
         let lines = vec![in rt.alloc(); Line::BLANK; 3]?;
         let logged = log(&[0x90, 60, 100, 60, 90, 0x80, 60, 64], lines);
-        let shown = text(rt.alloc(), &logged.lines[0..logged.written])?;
+        let shown = text(rt.alloc(), logged.written_lines())?;
         assert_eq!(rt; shown.as_str(), "2 1 0 0 60 100\n4 2 0 0 60 64\n");
         let tally = logged.tally;
         assert_eq!(rt; (tally.count, tally.note_ons, tally.taken), (8, 2, 1));
@@ -56,13 +57,17 @@ mod tests {
             0xC0, 1, 0x90, 1, 2, 0xFF,
         ];
         let whole = log(&bytes, vec![in rt.alloc(); Line::BLANK; 64]?);
-        let expected = text(rt.alloc(), &whole.lines[0..whole.written])?;
+        let expected = text(rt.alloc(), whole.written_lines())?;
         for cut in 0..bytes.len() {
             let (mut run, slip) = Run::open(Transposer::new(VoiceLog::new(
                 vec![in rt.alloc(); Line::BLANK; 64]?,
             )));
             let _ = run.feed(&bytes[0..cut]);
-            let set = run.set(0, 0, 0);
+            let set = run.set(Setting {
+                depth: 0,
+                item: 0,
+                value: 0,
+            });
             let _ = run.feed(&bytes[cut..]);
             let (tally, stack) = run.close(slip);
             let (lines, written) = stack.finish().finish();

@@ -24,7 +24,7 @@ pub enum Act {
     Close,
 }
 
-// A line as read. One that cannot be read is answered like any other and does not end the reading, so it is no error: that of `read_line` is want of memory.
+// A line as read. One that cannot be read is answered like any other and does not end the reading, so it is no error: that of `read_line` is want of memory. `Result<Option<Act>, ..>` would be no plainer.
 #[derive(Debug, PartialEq, Drop)]
 pub enum Line {
     // no word stands there

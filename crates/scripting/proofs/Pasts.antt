@@ -6,13 +6,13 @@ use Rattle.sink.specs.declared.fault.refusal.Refusal
 use Rattle.sink.specs.declared.sink.Sink
 use Rattle.run.specs.declared.counts.TooManyBytes.{TooManyBytes}
 use Rattle.run.specs.Past.{Feeds, Sets, fed, fed_denied, set}
-use Rattle.stacks.specs.Consoles.{ConsoleStack, ConsoleFault, console_kind}
+use Rattle.stacks.specs.Consoles.{ConsoleStack, ConsoleFault}
 use Rattle.scripting.specs.Consoles.{ConsoleRun, HasPast}
 
 module _ {gs : Sink.Ghosts ConsoleStack ConsoleFault} {gf : Refusal.Ghosts ConsoleFault} where
-  pub fed_past : (r r' : ConsoleRun gs gf) (bytes : List ℕ) (a : Result (Unit {0}) TooManyBytes) → Feeds console_kind.sees console_kind.meaning console_kind.sound console_kind.does console_kind.ends bytes r a r' → HasPast r → HasPast r'
+  pub fed_past : (r r' : ConsoleRun gs gf) (bytes : List ℕ) (a : Result (Unit {0}) TooManyBytes) → Feeds bytes r a r' → HasPast r → HasPast r'
   fed_past r r' bytes (Ok x) f h = ∥∥₁_map h (λ p. (p.0 ++ bytes, p.1 ++ f.0, fed bytes p.2 f.1))
   fed_past r r' bytes (Err e) f h = ∥∥₁_map h (λ p. (p.0, p.1, fed_denied e bytes p.2 f))
 
-  pub set_past : (r r' : ConsoleRun gs gf) (depth item : ℕ) (value : ℤ) (a : Answer ConsoleFault) → Sets console_kind.sees console_kind.meaning console_kind.sound console_kind.does console_kind.ends depth item value r a r' → HasPast r → HasPast r'
+  pub set_past : (r r' : ConsoleRun gs gf) (depth item : ℕ) (value : ℤ) (a : Answer ConsoleFault) → Sets depth item value r a r' → HasPast r → HasPast r'
   set_past r r' depth item value a f h = ∥∥₁_map h (λ p. (p.0, p.1, set depth item value p.2 f))

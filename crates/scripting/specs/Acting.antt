@@ -1,10 +1,7 @@
 -- What an act does to a run, and what it is answered.
 use Rattle.std.specs.Prelude.{◌≡◌, ℕ, List, ℤ, Ok, Err, Result}
-use Rattle.sink.specs.Calls.{Call, done, denied}
+use Rattle.sink.specs.Calls.{done, denied}
 use Rattle.sink.specs.Calls as calls
-use Rattle.sink.specs.Ends.{End}
-use Rattle.sink.specs.Faults.{Denial}
-use Rattle.sink.specs.Meaning.{Meaning}
 use Rattle.sink.specs.declared.fault.refusal.Refusal
 use Rattle.sink.specs.declared.sink.Sink
 use Rattle.run.specs.declared.counts.TooManyBytes.{TooManyBytes as TooMany}
@@ -25,15 +22,15 @@ set_answer (calls.ticket t) = Done
 set_answer done = Done
 set_answer (denied f) = Denied f
 
-module _ {S F : Type 0} {gs : Sink.Ghosts S F} {gf : Refusal.Ghosts F} (sees : F → Denial) (meaning : S → Meaning) (sound : S → Type 0) (does : S → Call → calls.Answer F → S → Type 0) (ends : S → List End) where
+module _ {S F : Type 0} {gs : Sink.Ghosts S F} {gf : Refusal.Ghosts F} where
   pub record FeedActs (bytes : List ℕ) (r : Run S F gs gf) (a : Answer F) (r' : Run S F gs gf) : Type 0 where
     pub taken : Result (Unit {0}) TooMany
-    pub feeds : Feeds sees meaning sound does ends bytes r taken r'
+    pub feeds : Feeds bytes r taken r'
     pub answer : a ≡ fed_answer taken
 
   pub record SetActs (depth item : ℕ) (value : ℤ) (r : Run S F gs gf) (a : Answer F) (r' : Run S F gs gf) : Type 0 where
     pub taken : calls.Answer F
-    pub sets : Sets sees meaning sound does ends depth item value r taken r'
+    pub sets : Sets depth item value r taken r'
     pub answer : a ≡ set_answer taken
 
   -- the counts, with nothing changed

@@ -46,3 +46,12 @@ module _ {gs : Sink.Ghosts ConsoleStack ConsoleFault} {gf : Refusal.Ghosts Conso
   Replies n (feeds bytes) r text r' text' = FeedsAndSays bytes r text r' text'
   Replies n (sets depth item value) r text r' text' = SetsAndSays depth item value r text r' text'
   Replies n tallies r text r' text' = CountsAndSays r text r' text'
+
+  -- what an error leaves, which is want of memory for the answer: what the line says is done all the same, and a line that is not answered does not fail
+  abbrev pub Leaves : Meant → ConsoleRun gs gf → ConsoleRun gs gf → Type 0
+  Leaves nothing r r' = ⊥
+  Leaves closes r r' = ⊥
+  Leaves unreadable r r' = r' ≡ r
+  Leaves (feeds bytes) r r' = (a : Answer ConsoleFault) × FeedsIt bytes r a r'
+  Leaves (sets depth item value) r r' = (a : Answer ConsoleFault) × SetsIt depth item value r a r'
+  Leaves tallies r r' = r' ≡ r

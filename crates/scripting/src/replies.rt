@@ -1,12 +1,13 @@
-ghost use Rattle.std.specs.Prelude.{◌≡◌, [], ◌∷◌, ◌++◌, string_bytes, OnOk};
+ghost use Rattle.std.specs.Prelude.{◌≡◌, [], ◌∷◌, ◌++◌, string_bytes, OnOk, OnErr};
 ghost use Rattle.run.specs.Counting.{tally_of};
 ghost use Rattle.script.specs.Lines.{says};
-ghost use Rattle.scripting.specs.Replies.{Replies, console_text};
+ghost use Rattle.scripting.specs.Replies.{Replies, Leaves, console_text};
 ghost use Rattle.scripting.specs.declared.answers.Answer.TheVariants.{Counted};
 
 use crate::answers::Answer;
 use crate::console::Console;
 use script::{Act, Line};
+use sink::calls::Setting;
 use stacks::console_stack::ConsoleFault;
 use std::fmt;
 
@@ -31,7 +32,8 @@ pub fn reply(
     number: usize,
     line: &Line,
 ) -> Result<(), fmt::Error>
-    ensures { OnOk result (Replies number (says line.now) console.old.run (string_bytes text.old) console.new.run (string_bytes text.new)) }
+    ensures ok { OnOk result (Replies number (says line.now) console.old.run (string_bytes text.old) console.new.run (string_bytes text.new)) }
+    ensures err { OnErr result (Leaves (says line.now) console.old.run console.new.run) }
 {
     match line {
         Line::Empty | Line::Act(Act::Close) => Ok(()),
@@ -39,17 +41,15 @@ pub fn reply(
             writeln!(text, "error line {number}: cannot be read")?;
             Ok(())
         }
-        Line::Act(Act::Feed(bytes)) => {
-            let answer = console.feed(bytes);
-            write_answer(text, answer)
-        }
+        Line::Act(Act::Feed(bytes)) => write_answer(text, Answer::from(console.feed(bytes))),
         Line::Act(Act::Set { depth, item, value }) => {
-            let answer = console.set(*depth, *item, *value);
-            write_answer(text, answer)
+            let setting = Setting {
+                depth: *depth,
+                item: *item,
+                value: *value,
+            };
+            write_answer(text, Answer::from(console.set(setting)))
         }
-        Line::Act(Act::Tally) => {
-            let answer = counted(console);
-            write_answer(text, answer)
-        }
+        Line::Act(Act::Tally) => write_answer(text, counted(console)),
     }
 }

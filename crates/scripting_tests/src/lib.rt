@@ -3,9 +3,10 @@
 
 #[cfg(test)]
 mod tests {
-    use script::read_line;
+    use script::{Line, read_line};
     use scripting::console::Console;
     use scripting::replies::reply;
+    use std::fmt;
     use std::test::Fail;
 
     // The shift moves while a key is down, a key is struck again through it, and settings are refused.
@@ -29,6 +30,18 @@ mod tests {
         0x90, 0x3C, 0x64, 0x80, 0x3C, 0x40, 0x90, 0x3C, 0x50, 0x80, 0x3C, 0x40,
     ];
 
+    // Answers the lines in turn, up to the first that fails.
+    fn reply_all(
+        console: &mut Console,
+        text: &mut String,
+        lines: &[Line],
+    ) -> Result<(), fmt::Error> {
+        for (i, line) in lines.iter().enumerate() {
+            reply(console, text, i + 1, line)?;
+        }
+        Ok(())
+    }
+
     #[test]
     fn shift_moves_while_a_key_is_down(rt: HostRuntime) -> Result<(), Fail> {
         let bytes = vec![in rt.alloc(); 0u8; 64]?;
@@ -39,15 +52,12 @@ mod tests {
         // A console must be closed, so nothing may leave early while it is open.
         let mut console = Console::open(bytes);
         let mut text = String::new(rt.alloc());
-        let mut answered = true;
-        for (i, line) in lines.iter().enumerate() {
-            answered &= reply(&mut console, &mut text, i + 1, line).is_ok();
-        }
+        let answered = reply_all(&mut console, &mut text, &lines);
         let closed = console.close();
-        assert!(rt; answered);
+        answered?;
         assert_eq!(rt; text.as_str(), ANSWERS);
         assert_eq!(rt; closed.written, 12);
-        assert_eq!(rt; &closed.bytes[0..12], WRITTEN.as_slice());
+        assert_eq!(rt; closed.written_bytes(), WRITTEN.as_slice());
         Ok(())
     }
 }

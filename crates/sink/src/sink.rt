@@ -3,6 +3,7 @@ ghost use Rattle.sink.specs.Calls.{Call, Start, Release, Hush, Tell, Set, Clear,
 ghost use Rattle.sink.specs.Meaning.{Meaning, Orderly, Means, whether};
 ghost use Rattle.sink.specs.Ends.{End, Each, clean, complete};
 
+use crate::calls::{ControlChange, NoteOn, Setting};
 use crate::fault::refusal::Refusal;
 
 // What notes are played into: a layer over another sink, an end of ours, or a builder's own chest.
@@ -31,10 +32,10 @@ pub trait Sink {
         ensures { result ≡ (meaning self.now).sounding ticket };
 
     // A note begins; answered by its ticket.
-    fn start(&mut self, place: u64, channel: u8, key: u8, velocity: u8) -> Result<u16, Self::Fault>
-        ensures { does self.old (Start place channel key velocity) (started result) self.new };
+    fn start(&mut self, place: u64, note: NoteOn) -> Result<u16, Self::Fault>
+        ensures { does self.old (Start place note.channel note.key note.velocity) (started result) self.new };
 
-    // A ticket is given back.
+    // A ticket is given back. Two numbers of two types are not mistaken for one another; a struct of them would only lengthen the calls.
     fn release(&mut self, place: u64, ticket: u16, velocity: u8) -> Result<(), Self::Fault>
         ensures { does self.old (Release place ticket velocity) (finished result) self.new };
 
@@ -43,18 +44,12 @@ pub trait Sink {
         ensures { does self.old (Hush place ticket) (finished result) self.new };
 
     // A controller message.
-    fn tell(
-        &mut self,
-        place: u64,
-        channel: u8,
-        controller: u8,
-        value: u8,
-    ) -> Result<(), Self::Fault>
-        ensures { does self.old (Tell place channel controller value) (finished result) self.new };
+    fn tell(&mut self, place: u64, change: ControlChange) -> Result<(), Self::Fault>
+        ensures { does self.old (Tell place change.channel change.controller change.value) (finished result) self.new };
 
     // A setting of the layer at a depth: 0 is the sink called.
-    fn set(&mut self, place: u64, depth: u32, item: u32, value: i32) -> Result<(), Self::Fault>
-        ensures { does self.old (Set place depth item value) (finished result) self.new };
+    fn set(&mut self, place: u64, setting: Setting) -> Result<(), Self::Fault>
+        ensures { does self.old (Set place setting.depth setting.item setting.value) (finished result) self.new };
 
     // What is kept ends.
     fn clear(&mut self, place: u64)

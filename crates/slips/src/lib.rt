@@ -4,8 +4,12 @@
 ghost use Rattle.sink.specs.Meaning.{Idle};
 ghost use Rattle.voice_log.specs.Log.{LogSound, log_meaning};
 ghost use Rattle.playing.specs.Plays.{Fed};
+ghost use Rattle.slips.specs.Twice.{Twice};
 
 use run::{Run, TooManyBytes};
+use sink::fault::Cause;
+use sink::fault::refusal::Refusal;
+use sink::sink::Sink;
 use voice_log::log::VoiceLog;
 
 // Plays the bytes into a log, and answers whether they were taken. The slip is spent by closing.
@@ -20,7 +24,8 @@ pub fn try_out(log: VoiceLog, bytes: &[u8]) -> Result<(), TooManyBytes>
 
 // Plays the bytes into a log twice. A closed run is not fed again: another is opened over the log handed back.
 pub fn repeat(log: VoiceLog, bytes: &[u8]) -> VoiceLog
-    ensures { LogSound log → Idle (log_meaning log) → LogSound result × Idle (log_meaning result) }
+    ensures twice { Twice ⟦<VoiceLog as Sink>⟧ ⟦<Cause as Refusal>⟧ bytes.now log result }
+    ensures idle { LogSound log → Idle (log_meaning log) → LogSound result × Idle (log_meaning result) }
 {
     let (mut run, slip) = Run::open(log);
     let _ = run.feed(bytes);

@@ -1,6 +1,8 @@
 -- Where a split sends a start, and what its items are.
-use Rattle.std.specs.Prelude.{◌≡◌, ℕ, Bool, cond, ℤ, pos, ◌==◌, nat_lt}
+use Rattle.std.specs.Prelude.{◌≡◌, ℕ, Bool, cond, ℤ, pos, Ok, Err, Result, ◌==◌, nat_le, nat_lt}
 use Rattle.sink.specs.Calls.{within}
+use Rattle.sink.specs.declared.fault.Cause.{Cause}
+use Rattle.sink.specs.declared.fault.Cause.TheVariants.{NoSuchItem, ValueOutOfRange}
 use Rattle.split.specs.declared.zones.Zones.{Zones}
 
 abbrev pub AllZero : Zones → Type 0
@@ -27,3 +29,10 @@ pub record Changed (item : ℕ) (value : ℤ) (z z' : Zones) : Type 0 where
   pub key : pos z'.key ≡ put item value 1 z.key
   pub low : pos z'.low ≡ put item value 2 z.low
   pub high : pos z'.high ≡ put item value 3 z.high
+
+-- an item set, or why not and the zones as they were
+abbrev pub ZonesSet : (item : ℕ) (value : ℤ) → Zones → Result (Unit {0}) Cause → Zones → Type 0
+ZonesSet item value z r z' =
+    cond (nat_le item 3)
+    (cond (is_value item value) ((r ≡ Ok tt) × Changed item value z z') ((r ≡ Err ValueOutOfRange) × (z' ≡ z)))
+    ((r ≡ Err NoSuchItem) × (z' ≡ z))

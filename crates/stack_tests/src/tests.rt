@@ -26,13 +26,13 @@ fn check_log(rt: &impl Abort, heap: Global, log: VoiceLog, expected: &str) -> Re
 }
 
 // A note is released under the pedal, another started, and the pedal raised.
-const PEDAL: [(Act, u8, u8); 6] = [
-    (Tell(1, 0, 64, 127), 0, 0),
-    (Start(2, 0, 60, 100), 0, 0),
-    (Release(3, 0, 40), 0, 0),
-    (Start(4, 0, 62, 90), 0, 0),
-    (Tell(6, 0, 64, 0), 0, 0),
-    (Release(7, 1, 33), 0, 0),
+const PEDAL: [(Act, Option<(u8, u8)>); 6] = [
+    (Tell(1, 0, 64, 127), None),
+    (Start(2, 0, 60, 100), None),
+    (Release(3, 0, 40), None),
+    (Start(4, 0, 62, 90), None),
+    (Tell(6, 0, 64, 0), None),
+    (Release(7, 1, 33), None),
 ];
 
 const REPLACED: &str = "2 1 0 0 60 100\n4 3 0 0 60 0\n4 1 1 0 62 90\n7 2 1 0 62 33\n";
@@ -44,7 +44,7 @@ const TOGETHER: &str = "2 1 0 0 60 100\n4 1 1 0 62 90\n6 2 0 0 60 64\n7 2 1 0 62
 fn hold_over_mono(rt: HostRuntime) -> Result<(), Fail> {
     let log = VoiceLog::new(vec![in rt.alloc(); Line::BLANK; 16]?);
     let mut sink = Hold::new(Mono::new(log));
-    assert!(rt; answers(&mut sink, &[(Tell(0, 0, 126, 0), 0, 0)]));
+    assert!(rt; answers(&mut sink, &[(Tell(0, 0, 126, 0), None)]));
     assert!(rt; answers(&mut sink, &PEDAL));
     check_log(&rt, rt.alloc(), sink.finish().finish(), REPLACED)
 }
@@ -54,7 +54,7 @@ fn hold_over_mono(rt: HostRuntime) -> Result<(), Fail> {
 fn mono_over_hold(rt: HostRuntime) -> Result<(), Fail> {
     let log = VoiceLog::new(vec![in rt.alloc(); Line::BLANK; 16]?);
     let mut sink = Mono::new(Hold::new(log));
-    assert!(rt; answers(&mut sink, &[(Tell(0, 0, 126, 0), 0, 0)]));
+    assert!(rt; answers(&mut sink, &[(Tell(0, 0, 126, 0), None)]));
     assert!(rt; answers(&mut sink, &PEDAL));
     check_log(&rt, rt.alloc(), sink.finish().finish(), TOGETHER)
 }
@@ -64,7 +64,7 @@ fn mono_over_hold(rt: HostRuntime) -> Result<(), Fail> {
 fn hold_over_quota(rt: HostRuntime) -> Result<(), Fail> {
     let log = VoiceLog::new(vec![in rt.alloc(); Line::BLANK; 16]?);
     let mut sink = Hold::new(Quota::new(log, Oldest));
-    assert!(rt; answers(&mut sink, &[(Set(0, 1, 0, 1), 0, 0)]));
+    assert!(rt; answers(&mut sink, &[(Set(0, 1, 0, 1), None)]));
     assert!(rt; answers(&mut sink, &PEDAL));
     check_log(&rt, rt.alloc(), sink.finish().finish(), REPLACED)
 }
@@ -73,29 +73,29 @@ fn hold_over_quota(rt: HostRuntime) -> Result<(), Fail> {
 fn quota_over_hold(rt: HostRuntime) -> Result<(), Fail> {
     let log = VoiceLog::new(vec![in rt.alloc(); Line::BLANK; 16]?);
     let mut sink = Quota::new(Hold::new(log), Oldest);
-    assert!(rt; answers(&mut sink, &[(Set(0, 0, 0, 1), 0, 0)]));
+    assert!(rt; answers(&mut sink, &[(Set(0, 0, 0, 1), None)]));
     assert!(rt; answers(&mut sink, &PEDAL));
     check_log(&rt, rt.alloc(), sink.finish().finish(), TOGETHER)
 }
 
 // What the upper hold lets go the lower one still keeps, until the split tells it of one channel and then the other.
-const SPLIT_PEDALS: [(Act, u8, u8); 16] = [
-    (Set(0, 1, 1, 60), 0, 0),
-    (Set(0, 1, 2, 2), 0, 0),
-    (Set(0, 1, 3, 1), 0, 0),
-    (Start(1, 0, 60, 100), 0, 0),
-    (Start(2, 0, 59, 90), 0, 0),
-    (Tell(3, 0, 64, 64), 0, 0),
-    (Release(4, 1, 10), 0, 0),
-    (Release(5, 0, 20), 0, 0),
-    (Release(5, 0, 20), 4, 0),
-    (Release(5, 9, 20), 4, 3),
-    (Tell(6, 0, 64, 63), 0, 0),
-    (Tell(7, 1, 64, 127), 0, 0),
-    (Start(8, 0, 72, 80), 0, 0),
-    (Release(9, 0, 5), 0, 0),
-    (Hush(10, 0), 4, 2),
-    (Clear(11), 0, 0),
+const SPLIT_PEDALS: [(Act, Option<(u8, u8)>); 16] = [
+    (Set(0, 1, 1, 60), None),
+    (Set(0, 1, 2, 2), None),
+    (Set(0, 1, 3, 1), None),
+    (Start(1, 0, 60, 100), None),
+    (Start(2, 0, 59, 90), None),
+    (Tell(3, 0, 64, 64), None),
+    (Release(4, 1, 10), None),
+    (Release(5, 0, 20), None),
+    (Release(5, 0, 20), Some((4, 0))),
+    (Release(5, 9, 20), Some((4, 3))),
+    (Tell(6, 0, 64, 63), None),
+    (Tell(7, 1, 64, 127), None),
+    (Start(8, 0, 72, 80), None),
+    (Release(9, 0, 5), None),
+    (Hush(10, 0), Some((4, 2))),
+    (Clear(11), None),
 ];
 
 #[test]
@@ -117,12 +117,12 @@ fn softest_first(rt: HostRuntime) -> Result<(), Fail> {
     let log = VoiceLog::new(vec![in rt.alloc(); Line::BLANK; 16]?);
     let mut sink = Transposer::new(Quota::new(log, Softest));
     let acts = [
-        (Set(0, 1, 0, 3), 0, 0),
-        (Start(1, 2, 50, 50), 0, 0),
-        (Start(1, 2, 40, 40), 0, 0),
-        (Start(1, 2, 41, 40), 0, 0),
-        (Start(2, 2, 70, 30), 0, 0),
-        (Set(3, 1, 0, 1), 0, 0),
+        (Set(0, 1, 0, 3), None),
+        (Start(1, 2, 50, 50), None),
+        (Start(1, 2, 40, 40), None),
+        (Start(1, 2, 41, 40), None),
+        (Start(2, 2, 70, 30), None),
+        (Set(3, 1, 0, 1), None),
     ];
     assert!(rt; answers(&mut sink, &acts));
     check_log(
@@ -134,20 +134,20 @@ fn softest_first(rt: HostRuntime) -> Result<(), Fail> {
 }
 
 // A start that is not ready hushes nothing, and each layer refuses what it has not.
-const REFUSED: [(Act, u8, u8); 13] = [
-    (Tell(0, 0, 126, 0), 0, 0),
-    (Start(1, 0, 60, 100), 0, 0),
-    (Start(2, 0, 62, 100), 3, 3),
-    (Set(3, 0, 0, 1), 7, 0),
-    (Set(3, 1, 1, 1), 7, 1),
-    (Set(3, 1, 0, 0), 8, 1),
-    (Set(3, 1, 0, 65), 8, 1),
-    (Set(3, 2, 4, 0), 7, 2),
-    (Set(3, 2, 1, 129), 8, 2),
-    (Set(3, 2, 1, 128), 0, 0),
-    (Set(3, 2, 3, 16), 8, 2),
-    (Set(3, 3, 0, 0), 6, 3),
-    (Hush(4, 5), 4, 3),
+const REFUSED: [(Act, Option<(u8, u8)>); 13] = [
+    (Tell(0, 0, 126, 0), None),
+    (Start(1, 0, 60, 100), None),
+    (Start(2, 0, 62, 100), Some((3, 3))),
+    (Set(3, 0, 0, 1), Some((7, 0))),
+    (Set(3, 1, 1, 1), Some((7, 1))),
+    (Set(3, 1, 0, 0), Some((8, 1))),
+    (Set(3, 1, 0, 65), Some((8, 1))),
+    (Set(3, 2, 4, 0), Some((7, 2))),
+    (Set(3, 2, 1, 129), Some((8, 2))),
+    (Set(3, 2, 1, 128), None),
+    (Set(3, 2, 3, 16), Some((8, 2))),
+    (Set(3, 3, 0, 0), Some((6, 3))),
+    (Hush(4, 5), Some((4, 3))),
 ];
 
 #[test]

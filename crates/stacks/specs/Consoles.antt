@@ -39,6 +39,6 @@ pub record NewConsole (items : List ℕ) (s : ConsoleStack) : Type 0 where
   pub limited : notes_of s.below.below.rolled.below.rolled.below.rolled ≡ []
   pub owed : notes (writer_of s) ≡ []
   pub silent : voices (writer_of s) ≡ replicate 128 None
-  pub written : (writer_of s).written ≡ 0
-  pub bytes : vec_items (writer_of s).bytes ≡ items
-  pub room : (writer_of s).room ≡ min (length items) 1000000000
+  pub written : (writer_of s).bytes.written ≡ 0
+  pub bytes : vec_items (writer_of s).bytes.items ≡ items
+  pub room : (writer_of s).bytes.room ≡ min (length items) 1000000000

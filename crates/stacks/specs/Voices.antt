@@ -36,7 +36,7 @@ pub record NewVoices (items : List Line) (s : VoiceStack) : Type 0 where
   pub single : notes_of s.below.rolled.below.rolled ≡ []
   pub limited : notes_of s.below.rolled.below.rolled.below.rolled ≡ []
   pub logged : notes (log_of s) ≡ []
-  pub silent : (log_of s).sounding.serials ≡ replicate 128 None
-  pub written : (log_of s).written ≡ 0
-  pub lines : vec_items (log_of s).lines ≡ items
-  pub room : (log_of s).room ≡ min (length items) 1000000000
+  pub silent : (log_of s).sounding.voices ≡ replicate 128 None
+  pub written : (log_of s).lines.written ≡ 0
+  pub lines : vec_items (log_of s).lines.items ≡ items
+  pub room : (log_of s).lines.room ≡ min (length items) 1000000000

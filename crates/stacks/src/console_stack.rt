@@ -28,10 +28,10 @@ pub fn console_stack(bytes: Vec<u8>) -> ConsoleStack
     Transposer::new(Split::new(Hold::new(Mono::new(Quota::new(ByteWriter::new(bytes), Softest)))))
 }
 
-// Takes the stack apart: the writer's bytes, and how many of them are written.
+// Takes the stack apart: the writer's bytes, and how many of them are written. Memory that was handed in goes back whole.
 pub fn into_bytes(stack: ConsoleStack) -> (Vec<u8>, usize)
-    ensures bytes { result.0 ≡ (writer_of stack).bytes }
-    ensures written { result.1 ≡ (writer_of stack).written }
+    ensures bytes { result.0 ≡ (writer_of stack).bytes.items }
+    ensures written { result.1 ≡ (writer_of stack).bytes.written }
     ensures within { result.1 ≤ vec_len result.0 }
     ensures clean { Each clean (console_kind.ends stack) → Clean (take result.1 result.0.items) }
     ensures complete { Each complete (console_kind.ends stack) → Complete (take result.1 result.0.items) }

@@ -28,10 +28,10 @@ pub fn voice_stack(lines: Vec<Line>) -> VoiceStack
     Transposer::new(Hold::new(Mono::new(Quota::new(VoiceLog::new(lines), Oldest))))
 }
 
-// Takes the stack apart: the log's lines, and how many of them are written.
+// Takes the stack apart: the log's lines, and how many of them are written. Memory that was handed in goes back whole.
 pub fn into_lines(stack: VoiceStack) -> (Vec<Line>, usize)
-    ensures lines { result.0 ≡ (log_of stack).lines }
-    ensures written { result.1 ≡ (log_of stack).written }
+    ensures lines { result.0 ≡ (log_of stack).lines.items }
+    ensures written { result.1 ≡ (log_of stack).lines.written }
     ensures within { result.1 ≤ vec_len result.0 }
     ensures clean { Each clean (voice_kind.ends stack) → Clean (take result.1 result.0.items) }
     ensures complete { Each complete (voice_kind.ends stack) → Complete (take result.1 result.0.items) }

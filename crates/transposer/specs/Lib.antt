@@ -1,4 +1,5 @@
 pub mod Shift
+pub mod Shifts
 pub mod Transposer
 pub mod Adding
 pub mod Law

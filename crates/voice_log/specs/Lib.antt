@@ -3,5 +3,4 @@ pub mod Serials
 pub mod Log
 pub mod Text
 pub mod Law
-pub mod Tallies
 pub mod Written

@@ -1,5 +1,6 @@
 -- The lines of a log, the first written first.
-use Rattle.std.specs.Prelude.{◌≡◌, ℕ, ◌+◌, ◌≤◌, Bool, true, false, cond, not, ◌&&◌, List, [], ◌∷◌, take, ◌==◌}
+use Rattle.std.specs.Prelude.{◌≡◌, ℕ, ◌+◌, ◌≤◌, Bool, true, false, not, ◌&&◌, List, [], ◌∷◌, take, ◌==◌}
+use Rattle.roll.specs.Voices.{one}
 use Rattle.voice_log.specs.declared.line.Kind.{Kind}
 use Rattle.voice_log.specs.declared.line.Kind.TheVariants.{Begun, Ended, Hushed}
 use Rattle.voice_log.specs.declared.line.Line.{Line}
@@ -13,9 +14,6 @@ abbrev pub is_begun : Kind → Bool
 is_begun Begun = true
 is_begun Ended = false
 is_begun Hushed = false
-
-abbrev pub one : Bool → ℕ
-one b = cond b 1 0
 
 -- how many begun lines there are
 unfoldable pub begun_count : List Line → ℕ

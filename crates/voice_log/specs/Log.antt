@@ -1,16 +1,16 @@
 -- What a voice log means, and what each call writes.
-use Rattle.std.specs.Prelude.{◌≡◌, ℕ, ◌+◌, ◌-◌, ◌<◌, ◌≤◌, true, false, cond, List, [], ◌∷◌, ◌++◌, take, is_some, Some, None, Ok, Err, vec_items, Option, Result, ◌≢◌, nat_le, nat_lt, slice_index_or, slice_set}
-use Rattle.sink.specs.Faults.{here}
-use Rattle.sink.specs.Calls.{Call, Start, Release, Hush, Tell, Set, Clear, Answer, ticket, done, startable, tellable}
-use Rattle.sink.specs.Meaning.{Meaning, whether}
-use Rattle.sink.specs.Layered.{Refused}
+use Rattle.std.specs.Prelude.{◌≡◌, ℕ, ◌-◌, ◌<◌, ◌≤◌, true, false, List, [], ◌∷◌, ◌++◌, Some, None, Option, Result, ◌≢◌, nat_lt, slice_set}
+use Rattle.sink.specs.Calls.{Call, Answer, ticket, done}
+use Rattle.sink.specs.Meaning.{Meaning}
 use Rattle.sink.specs.Ends.{End}
 use Rattle.sink.specs.declared.fault.Cause.{Cause}
-use Rattle.sink.specs.declared.fault.Cause.TheVariants.{OutOfRange, AllOut, NoSpace, NotOwed, TellOutOfRange, NoLayer}
-use Rattle.roll.specs.Notes.{found, lists, full, picked, left_out, Distinct}
+use Rattle.roll.specs.Notes.{lists, full, picked, left_out}
 use Rattle.roll.specs.Rolls.{listed}
+use Rattle.roll.specs.Voices.{voice}
 use Rattle.roll.specs.declared.note.Note.{Note}
 use Rattle.roll.specs.declared.note.Pick.TheVariants.{Ticket}
+use Rattle.ends.specs.Buffers.{front, Pushed}
+use Rattle.ends.specs.Ending.{check_of, end_meaning, new_note, InOrder, Deeds, EndDoes}
 use Rattle.voice_log.specs.Lines.{begun_count, begins, stops, Clean, Complete}
 use Rattle.voice_log.specs.Serials.{Told}
 use Rattle.voice_log.specs.declared.line.Kind.{Kind}
@@ -20,37 +20,38 @@ use Rattle.voice_log.specs.declared.log.VoiceLog.{VoiceLog}
 
 -- the lines written so far
 abbrev pub written_lines : VoiceLog → List Line
-written_lines s = take s.written (vec_items s.lines)
+written_lines s = front s.lines
 
 -- the notes whose tickets are owed, the oldest first
 abbrev pub notes : VoiceLog → List Note
 notes s = listed s.roll
 
+-- for each ticket the serial that it sounds with
+abbrev pub serials : VoiceLog → List (Option ℕ)
+serials s = s.sounding.voices
+
 -- the serial of a ticket that sounds
 abbrev pub serial_of : VoiceLog → ℕ → Option ℕ
-serial_of s u = slice_index_or s.sounding.serials u None
+serial_of s u = voice (serials s) u
 
--- a ticket must be free; and each sounding note has one free line set aside for its stop, besides which two must be left
+-- the lines that are free, less one for the stop of each ticket that sounds
+abbrev pub spare : VoiceLog → ℕ
+spare s = s.lines.room - s.lines.written - s.sounding.count
+
+-- a ticket must be free, and two lines to spare: one for the begun line, and one for its stop
 abbrev pub log_check : VoiceLog → Result (Unit {0}) Cause
-log_check s = cond (full (notes s)) (Err AllOut) (cond (nat_lt (s.room - s.written - s.sounding.count) 2) (Err NoSpace) (Ok tt))
+log_check s = check_of (full (notes s)) (nat_lt (spare s) 2)
 
 abbrev pub log_meaning : VoiceLog → Meaning
-log_meaning s = record {
-  ready = whether here (log_check s);
-  owed = lists (notes s);
-  kept = λ u. false;
-  sounding = λ u. is_some (serial_of s u);
-}
+log_meaning s = end_meaning (log_check s) (notes s) (serials s)
 
 -- one line more; every other place of the lines stays
-pub record Writes (l : Line) (s t : VoiceLog) : Type 0 where
-  pub lines : vec_items t.lines ≡ slice_set (vec_items s.lines) s.written l
-  pub written : t.written ≡ s.written + 1
+abbrev pub Writes : Line → VoiceLog → VoiceLog → Type 0
+Writes l s t = Pushed l s.lines t.lines
 
 -- no line more
-pub record Silent (s t : VoiceLog) : Type 0 where
-  pub lines : t.lines ≡ s.lines
-  pub written : t.written ≡ s.written
+abbrev pub Silent : VoiceLog → VoiceLog → Type 0
+Silent s t = t.lines ≡ s.lines
 
 abbrev pub stop_line : (serial place : ℕ) (kind : Kind) (note : Note) (velocity : ℕ) → Line
 stop_line n place kind note velocity = record { place = place; kind = kind; serial = n; channel = note.channel; key = note.key; velocity = velocity }
@@ -62,12 +63,8 @@ StopLine (Some n) place kind note velocity s t = Writes (stop_line n place kind 
 
 pub record Stops (u place : ℕ) (kind : Kind) (note : Note) (velocity : ℕ) (s t : VoiceLog) : Type 0 where
   pub line : StopLine (serial_of s u) place kind note velocity s t
-  pub serials : t.sounding.serials ≡ slice_set s.sounding.serials u None
+  pub serials : serials t ≡ slice_set (serials s) u None
   pub roll : t.roll ≡ s.roll
-  pub room : t.room ≡ s.room
-
-abbrev pub new_note : ℕ → ℕ → ℕ → ℕ → Note
-new_note t channel key velocity = record { ticket = t; channel = channel; key = key; velocity = velocity; kept = false }
 
 -- notes are numbered as they begin
 abbrev pub begun_line : (place channel key velocity : ℕ) → VoiceLog → Line
@@ -82,52 +79,30 @@ pub record Begins (place channel key velocity : ℕ) (s : VoiceLog) (a : Answer 
   pub answer : a ≡ ticket number
   pub line : Writes (begun_line place channel key velocity s) s t
   pub roll : notes t ≡ notes s ++ (new_note number channel key velocity ∷ [])
-  pub serials : t.sounding.serials ≡ slice_set s.sounding.serials number (Some (begun_count (written_lines s)))
-  pub room : t.room ≡ s.room
+  pub serials : serials t ≡ slice_set (serials s) number (Some (begun_count (written_lines s)))
 
 -- A ticket is released: its stop line, and it is out of the roll.
-pub record Ends (u place : ℕ) (note : Note) (velocity : ℕ) (s : VoiceLog) (a : Answer Cause) (t : VoiceLog) : Type 0 where
+pub record Ends (place u velocity : ℕ) (note : Note) (s : VoiceLog) (a : Answer Cause) (t : VoiceLog) : Type 0 where
   pub answer : a ≡ done
   pub line : StopLine (serial_of s u) place Ended note velocity s t
-  pub serials : t.sounding.serials ≡ slice_set s.sounding.serials u None
+  pub serials : serials t ≡ slice_set (serials s) u None
   pub roll : notes t ≡ left_out (picked (Ticket u)) (notes s)
-  pub room : t.room ≡ s.room
 
 -- A ticket is hushed: its stop line, with velocity 0.
-pub record Hushes (u place : ℕ) (note : Note) (s : VoiceLog) (a : Answer Cause) (t : VoiceLog) : Type 0 where
+pub record Hushes (place u : ℕ) (note : Note) (s : VoiceLog) (a : Answer Cause) (t : VoiceLog) : Type 0 where
   pub answer : a ≡ done
   pub stops : Stops u place Hushed note 0 s t
 
-pub record Same (s : VoiceLog) (a : Answer Cause) (t : VoiceLog) : Type 0 where
-  pub answer : a ≡ done
-  pub same : t ≡ s
-
-abbrev pub starts : Result (Unit {0}) Cause → (place channel key velocity : ℕ) → VoiceLog → Answer Cause → VoiceLog → Type 0
-starts (Ok _) place channel key velocity s a t = Begins place channel key velocity s a t
-starts (Err f) place channel key velocity s a t = Refused f s a t
-
-abbrev pub releases : Option Note → (u place velocity : ℕ) → VoiceLog → Answer Cause → VoiceLog → Type 0
-releases None u place velocity s a t = Refused NotOwed s a t
-releases (Some n) u place velocity s a t = Ends u place n velocity s a t
-
-abbrev pub hushes : Option Note → (u place : ℕ) → VoiceLog → Answer Cause → VoiceLog → Type 0
-hushes None u place s a t = Refused NotOwed s a t
-hushes (Some n) u place s a t = Hushes u place n s a t
+abbrev pub log_deeds : Deeds VoiceLog
+log_deeds = record { check = log_check; notes = notes; begins = Begins; ends = Ends; hushes = Hushes }
 
 abbrev pub LogDoes : VoiceLog → Call → Answer Cause → VoiceLog → Type 0
-LogDoes s (Start place channel key velocity) a t = cond (startable channel key velocity) (starts (log_check s) place channel key velocity s a t) (Refused OutOfRange s a t)
-LogDoes s (Release place u velocity) a t = cond (nat_le velocity 127) (releases (found u (notes s)) u place velocity s a t) (Refused OutOfRange s a t)
-LogDoes s (Hush place u) a t = hushes (found u (notes s)) u place s a t
-LogDoes s (Tell place channel controller value) a t = cond (tellable channel controller value) (Same s a t) (Refused TellOutOfRange s a t)
-LogDoes s (Set place depth item value) a t = Refused NoLayer s a t
-LogDoes s (Clear place) a t = Same s a t
+LogDoes = EndDoes log_deeds
 
--- In every state that calls lead to: the roll has each ticket once, all below 128; what sounds is in the roll; and the lines tell of it.
+-- In every state that calls lead to: the tickets are in order, and the lines tell of what sounds.
 pub record LogSound (s : VoiceLog) : Type 0 where
-  pub once : Distinct (notes s)
-  pub small : (u : ℕ) → lists (notes s) u ≡ true → u < 128
-  pub within : (u : ℕ) → is_some (serial_of s u) ≡ true → lists (notes s) u ≡ true
-  pub told : Told (written_lines s) s.sounding.serials
+  pub order : InOrder (notes s) (serials s)
+  pub told : Told (written_lines s) (serials s)
 
 -- Every begun line whose ticket sounds no more has exactly one stop.
 abbrev pub Stopped : VoiceLog → Type 0

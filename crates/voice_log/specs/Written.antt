@@ -1,13 +1,17 @@
 -- One line more.
-use Rattle.std.specs.Prelude.{◌≡◌, ℕ, ◌+◌, ◌<◌, ◌≤◌, Bool, true, false, not, ◌&&◌, List, [], ◌∷◌, ◌++◌, length, take, replicate, Some, None, Option, ◌==◌, ◌≢◌, nat_le, nat_lt, slice_index_or, slice_set, refl}
-use Rattle.std.proofs.Common.{sym, ap, ap₂, subst, ◌∙◌, arith, leb-true, leb-false, le-ltb, length-append, length-take-le}
-use Rattle.std.proofs.lemmas.List.{take_more_set, take_all, take-append-le}
+use Rattle.std.specs.Prelude.{◌≡◌, ℕ, ◌+◌, ◌<◌, ◌≤◌, Bool, true, false, not, ◌&&◌, List, [], ◌∷◌, ◌++◌, length, take, replicate, Some, None, vec_items, Option, ◌==◌, ◌≢◌, nat_le, nat_lt, slice_set, refl}
+use Rattle.std.proofs.Common.{sym, ap, ap₂, subst, ◌∙◌, arith, ne_eqb, leb-true, leb-false, le-ltb, length-append, length-take-le}
+use Rattle.std.proofs.lemmas.List.{take_all, take-append-le}
 use Rattle.std.proofs.lemmas.Bool.Decides.{nat_tests}
-use Rattle.voice_log.specs.Lines.{one, is_begun, begun_count, begins, stops, Clean}
-use Rattle.voice_log.specs.Serials.{is_serial, speaking, Told}
+use Rattle.roll.specs.Voices.{one, voice, passes}
+use Rattle.roll.proofs.Tallies.{one_le, at_some, with_set, with_gone, with_none}
+use Rattle.ends.specs.Buffers.{front, Pushed}
+use Rattle.ends.specs.declared.buffer.Buffer.{Buffer}
+use Rattle.ends.proofs.Buffers.{within, pushed_front}
+use Rattle.voice_log.specs.Lines.{is_begun, begun_count, begins, stops, Clean}
+use Rattle.voice_log.specs.Serials.{speaking, Told}
 use Rattle.voice_log.specs.declared.line.Kind.TheVariants.{Begun}
 use Rattle.voice_log.specs.declared.line.Line.{Line}
-use Rattle.voice_log.specs.Tallies.{one_le, at_some, speaking_set, speaking_gone, speaking_none}
 
 pub begun_count_snoc : (ls : List Line) (l : Line) → begun_count (ls ++ (l ∷ [])) ≡ begun_count ls + one (is_begun l.kind)
 unfolding begun_count
@@ -30,11 +34,11 @@ begun_count_le [] = omega arith
 begun_count_le (l ∷ ls) = let e = begun_count_le ls in let o = one_le (is_begun l.kind) in omega arith
 
 -- there are no more begun lines than lines
-pub begun_within : (items : List Line) (w : ℕ) → w ≤ length items → begun_count (take w items) ≤ w
-begun_within items w h = let e = length-take-le w items h in let b = begun_count_le (take w items) in omega arith
+pub begun_within : (b : Buffer Line) → begun_count (front b) ≤ b.written
+begun_within b = let e = length-take-le b.written (vec_items b.items) (within b) in let k = begun_count_le (front b) in omega arith
 
-pub begun_next : (items : List Line) (w : ℕ) (l : Line) → w < length items → begun_count (take (w + 1) (slice_set items w l)) ≡ begun_count (take w items) + one (is_begun l.kind)
-begun_next items w l h = ap begun_count (take_more_set items w l h) ∙ begun_count_snoc (take w items) l
+pub begun_next : (l : Line) (b c : Buffer Line) → Pushed l b c → begun_count (front c) ≡ begun_count (front b) + one (is_begun l.kind)
+begun_next l b c w = ap begun_count (pushed_front l b c w) ∙ begun_count_snoc (front b) l
 
 clean_part : (ls : List Line) (l : Line) (k n : ℕ) (b : Bool) → nat_le k (length ls) ≡ b → Clean ls → (begins n (ls ++ (l ∷ [])) ≤ 1) × (stops n (ls ++ (l ∷ [])) ≤ begins n (ls ++ (l ∷ []))) → (begins n (take k (ls ++ (l ∷ []))) ≤ 1) × (stops n (take k (ls ++ (l ∷ []))) ≤ begins n (take k (ls ++ (l ∷ []))))
 clean_part ls l k n true e c h = let le : k ≤ length ls = leb-true k (length ls) e in subst (λ r. (begins n r ≤ 1) × (stops n r ≤ begins n r)) (sym (take-append-le k ls (l ∷ []) le)) (c k n)
@@ -56,7 +60,7 @@ next_serial n b = grind (arith, nat_tests)
 
 module _ (ls : List Line) (l : Line) (xs : List (Option ℕ)) (told : Told ls xs) where
   -- a begun line with the next serial, and its ticket, silent before, sounds
-  pub told_begun : (i : ℕ) → l.kind ≡ Begun → l.serial ≡ begun_count ls → i < length xs → slice_index_or xs i None ≡ None → Told (ls ++ (l ∷ [])) (slice_set xs i (Some (begun_count ls)))
+  pub told_begun : (i : ℕ) → l.kind ≡ Begun → l.serial ≡ begun_count ls → i < length xs → voice xs i ≡ None → Told (ls ++ (l ∷ [])) (slice_set xs i (Some (begun_count ls)))
   told_begun i kind serial h silent = told_more ls l (slice_set xs i (Some (begun_count ls))) told.clean pairs numbers
     where
       one_more : (n : ℕ) → begins n (ls ++ (l ∷ [])) ≡ begins n ls + one (begun_count ls == n)
@@ -66,8 +70,8 @@ module _ (ls : List Line) (l : Line) (xs : List (Option ℕ)) (told : Told ls xs
       pairs n =
           let a = stops_snoc n ls l in
           let z : one (not (is_begun l.kind) && l.serial == n) ≡ 0 = ap (λ k. one (not (is_begun k) && l.serial == n)) kind in
-          let s = speaking_set n xs i (Some (begun_count ls)) h in
-          let o : one (is_serial n (slice_index_or xs i None)) ≡ 0 = ap (λ x. one (is_serial n x)) silent in
+          let s = with_set (λ m. m == n) xs i (Some (begun_count ls)) h in
+          let o : one (passes (λ m. m == n) (voice xs i)) ≡ 0 = ap (λ x. one (passes (λ m. m == n) x)) silent in
           let m = one_more n in
           let p = told.paired n in
           omega arith
@@ -78,7 +82,7 @@ module _ (ls : List Line) (l : Line) (xs : List (Option ℕ)) (told : Told ls xs
           ∙ ap (λ b. one (nat_lt n b)) (sym (begun_count_snoc ls l ∙ ap (λ k. begun_count ls + one (is_begun k)) kind))
 
   -- a stop line with the serial of a ticket that sounds, which falls silent
-  pub told_stopped : (i m : ℕ) → is_begun l.kind ≡ false → l.serial ≡ m → slice_index_or xs i None ≡ Some m → Told (ls ++ (l ∷ [])) (slice_set xs i None)
+  pub told_stopped : (i m : ℕ) → is_begun l.kind ≡ false → l.serial ≡ m → voice xs i ≡ Some m → Told (ls ++ (l ∷ [])) (slice_set xs i None)
   told_stopped i m kind serial sounds = told_more ls l (slice_set xs i None) told.clean pairs numbers
     where
       as_many : (n : ℕ) → begins n (ls ++ (l ∷ [])) ≡ begins n ls
@@ -88,8 +92,8 @@ module _ (ls : List Line) (l : Line) (xs : List (Option ℕ)) (told : Told ls xs
       pairs n =
           let a = stops_snoc n ls l in
           let z : one (not (is_begun l.kind) && l.serial == n) ≡ one (m == n) = ap₂ (λ k j. one (not k && j == n)) kind serial in
-          let s = speaking_set n xs i None (at_some xs i m sounds) in
-          let o : one (is_serial n (slice_index_or xs i None)) ≡ one (m == n) = ap (λ x. one (is_serial n x)) sounds in
+          let s = with_set (λ m. m == n) xs i None (at_some xs i m sounds) in
+          let o : one (passes (λ m. m == n) (voice xs i)) ≡ one (m == n) = ap (λ x. one (passes (λ m. m == n) x)) sounds in
           let b = as_many n in
           let p = told.paired n in
           omega arith
@@ -102,10 +106,10 @@ module _ (ls : List Line) (l : Line) (xs : List (Option ℕ)) (told : Told ls xs
           as_many n ∙ told.numbered n ∙ ap (λ b. one (nat_lt n b)) (sym e)
 
 -- a begun line whose ticket sounds no more has exactly one stop
-pub told_stop : (ls : List Line) (xs : List (Option ℕ)) → Told ls xs → (n : ℕ) → 1 ≤ begins n ls → ((u : ℕ) → slice_index_or xs u None ≢ Some n) → stops n ls ≡ 1
+pub told_stop : (ls : List Line) (xs : List (Option ℕ)) → Told ls xs → (n : ℕ) → 1 ≤ begins n ls → ((u : ℕ) → voice xs u ≢ Some n) → stops n ls ≡ 1
 told_stop ls xs told n h gone =
     let p = told.paired n in
-    let s = speaking_gone n xs gone in
+    let s = with_gone (λ m. m == n) xs (λ u m e. ne_eqb m n (λ q. gone u (e ∙ ap Some q))) in
     let q = told.numbered n in
     let o = one_le (nat_lt n (begun_count ls)) in
     omega arith
@@ -114,7 +118,7 @@ pub told_none : (k : ℕ) → Told [] (replicate k None)
 unfolding begins stops begun_count
 told_none k = record {
   clean = λ j n. empty j n;
-  paired = λ n. let e = speaking_none n k in omega arith;
+  paired = λ n. let e = with_none (λ m. m == n) k in omega arith;
   numbered = λ n. ap one (sym (le-ltb n 0 (omega arith)));
 }
   where

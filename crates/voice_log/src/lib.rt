@@ -4,4 +4,3 @@
 pub mod line;
 pub mod line_text;
 pub mod log;
-mod sounding;

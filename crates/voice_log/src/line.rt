@@ -1,33 +1,27 @@
 ghost use Rattle.std.specs.Prelude.{◌≡◌};
-ghost use Rattle.voice_log.specs.Lines.{kind_number, is_begun, one};
+ghost use Rattle.roll.specs.Voices.{one};
+ghost use Rattle.voice_log.specs.Lines.{kind_number, is_begun};
 
 // What a line tells of its note.
 #[derive(Clone, Copy, PartialEq, Eq, Debug)]
 pub enum Kind {
-    Begun,
-    Ended,
-    Hushed,
+    Begun = 1,
+    Ended = 2,
+    Hushed = 3,
 }
 
 impl Kind {
     pub fn number(self) -> u8
         ensures { result ≡ kind_number self }
     {
-        match self {
-            Kind::Begun => 1,
-            Kind::Ended => 2,
-            Kind::Hushed => 3,
-        }
+        self as u8
     }
 
     // How many begun lines a line of this kind is: one or none.
     pub(crate) fn begun_lines(self) -> u32
         ensures { result ≡ one (is_begun self) }
     {
-        match self {
-            Kind::Begun => 1,
-            Kind::Ended | Kind::Hushed => 0,
-        }
+        u32::from(self == Kind::Begun)
     }
 }
 

@@ -1,23 +1,20 @@
-ghost use Rattle.std.specs.Prelude.{◌≡◌, ◌+◌, ◌≤◌, take, vec_len};
+ghost use Rattle.std.specs.Prelude.{◌≡◌, ◌+◌, ◌≤◌, take};
 ghost use Rattle.voice_log.specs.Lines.{begun_count};
 
 use crate::line::Line;
-use crate::sounding::Sounding;
+use ends::buffer::Buffer;
 use roll::roll::Roll;
+use roll::sounding::Sounding;
 
-// Owns the lines that it is handed, and has written the first `written` of them; it uses `room` of them at most.
+// Writes to the lines that it is handed. A line is set aside for the stop of each ticket that sounds.
 #[derive(Drop)]
 pub struct VoiceLog {
-    lines: Vec<Line>,
-    room: usize,
-    written: usize,
+    lines: Buffer<Line>,
     begun: u32,
     roll: Roll,
-    sounding: Sounding,
-    ghost there: { room ≤ vec_len lines },
-    ghost most: { room ≤ 1000000000 },
-    ghost counted: { begun ≡ begun_count (take written lines.items) },
-    ghost reserved: { written + sounding.count ≤ room },
+    sounding: Sounding<u32>,
+    ghost counted: { begun ≡ begun_count (take lines.written lines.items.items) },
+    ghost reserved: { lines.written + sounding.count ≤ lines.room },
 }
 
 pub mod calls;

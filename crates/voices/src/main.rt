@@ -12,7 +12,7 @@ fn main(rt: HostRuntime) -> anyhow::Result<()> {
     rt.stdin().read_to_end(&mut bytes)?;
     let lines = vec![in heap; Line::BLANK; 2048]?;
     let logged = log(&bytes, lines);
-    let shown = text(heap, &logged.lines[0..logged.written])?;
+    let shown = text(heap, logged.written_lines())?;
     rt.print(shown.as_str())?;
     Ok(())
 }

@@ -5,8 +5,8 @@ ghost use Rattle.builder_sinks.specs.Latched.{latched_meaning, LatchedSound};
 ghost use Rattle.std.proofs.Common.{rules};
 
 use crate::latched::{LatchedPipe, Valve};
+use sink::calls::{ControlChange, NoteOn, Setting};
 use sink::fault::Cause;
-use sink::ranges::{is_startable, is_tellable};
 use sink::sink::Sink;
 
 impl LatchedPipe {
@@ -50,12 +50,12 @@ impl Sink for LatchedPipe {
     fn sounds(&self, ticket: u16) -> bool {
         match self.valve {
             Valve::Closed => false,
-            Valve::Held { speaking } | Valve::Latched { speaking } => speaking & (ticket == 7),
+            Valve::Held { speaking } | Valve::Latched { speaking } => speaking && ticket == 7,
         }
     }
 
-    fn start(&mut self, _place: u64, channel: u8, key: u8, velocity: u8) -> Result<u16, Cause> {
-        if !is_startable(channel, key, velocity) {
+    fn start(&mut self, _place: u64, note: NoteOn) -> Result<u16, Cause> {
+        if !note.is_startable() {
             return Err(Cause::OutOfRange);
         }
         let Valve::Closed = self.valve else {
@@ -88,14 +88,14 @@ impl Sink for LatchedPipe {
         }
     }
 
-    fn tell(&mut self, _place: u64, channel: u8, controller: u8, value: u8) -> Result<(), Cause> {
-        if !is_tellable(channel, controller, value) {
+    fn tell(&mut self, _place: u64, change: ControlChange) -> Result<(), Cause> {
+        if !change.is_tellable() {
             return Err(Cause::TellOutOfRange);
         }
         Ok(())
     }
 
-    fn set(&mut self, _place: u64, _depth: u32, _item: u32, _value: i32) -> Result<(), Cause> {
+    fn set(&mut self, _place: u64, _setting: Setting) -> Result<(), Cause> {
         Err(Cause::NoLayer)
     }
 

@@ -4,9 +4,9 @@ ghost use Rattle.builder_sinks.specs.Windless.{chest_denial, windless_meaning, W
 ghost use Rattle.std.proofs.Common.{rules};
 
 use crate::windless::{ChestFault, Windless};
+use sink::calls::{ControlChange, NoteOn, Setting};
 use sink::fault::Cause;
 use sink::fault::refusal::Refusal;
-use sink::ranges::{is_startable, is_tellable};
 use sink::sink::Sink;
 
 impl Refusal for ChestFault {
@@ -61,14 +61,8 @@ impl Sink for Windless {
         false
     }
 
-    fn start(
-        &mut self,
-        _place: u64,
-        channel: u8,
-        key: u8,
-        velocity: u8,
-    ) -> Result<u16, ChestFault> {
-        if !is_startable(channel, key, velocity) {
+    fn start(&mut self, _place: u64, note: NoteOn) -> Result<u16, ChestFault> {
+        if !note.is_startable() {
             return Err(ChestFault::Plain(Cause::OutOfRange));
         }
         Err(ChestFault::NoWind)
@@ -85,20 +79,14 @@ impl Sink for Windless {
         Err(ChestFault::Plain(Cause::NotOwed))
     }
 
-    fn tell(
-        &mut self,
-        _place: u64,
-        channel: u8,
-        controller: u8,
-        value: u8,
-    ) -> Result<(), ChestFault> {
-        if !is_tellable(channel, controller, value) {
+    fn tell(&mut self, _place: u64, change: ControlChange) -> Result<(), ChestFault> {
+        if !change.is_tellable() {
             return Err(ChestFault::Plain(Cause::TellOutOfRange));
         }
         Ok(())
     }
 
-    fn set(&mut self, _place: u64, _depth: u32, _item: u32, _value: i32) -> Result<(), ChestFault> {
+    fn set(&mut self, _place: u64, _setting: Setting) -> Result<(), ChestFault> {
         Err(ChestFault::Plain(Cause::NoLayer))
     }
 

@@ -10,35 +10,32 @@ ghost use Rattle.sink.proofs.Bools.{clash};
 ghost use Rattle.roll.proofs.Tallies.{with_gone};
 ghost use Rattle.byte_writer.specs.Keys.{is_key};
 
-use crate::key::Key;
 use crate::message::NoteMessage;
+use crate::strike::Strike;
 use crate::writer::ByteWriter;
 use crate::writer::writing::HUSHED;
-use ends::room_in;
+use ends::buffer::Buffer;
 use roll::note::Pick;
 use roll::roll::Roll;
 use roll::sounding::Sounding;
+use sink::calls::{ControlChange, NoteOn, Setting};
 use sink::fault::Cause;
-use sink::ranges::{is_startable, is_tellable};
 use sink::sink::Sink;
 
 impl ByteWriter {
     // A writer over these bytes, of which it uses the first 1,000,000,000 at most.
     pub fn new(bytes: Vec<u8>) -> ByteWriter
-        ensures bytes { result.bytes ≡ bytes }
-        ensures written { result.written ≡ 0 }
-        ensures room { result.room ≡ min (vec_len bytes) 1000000000 }
+        ensures bytes { result.bytes.items ≡ bytes }
+        ensures written { result.bytes.written ≡ 0 }
+        ensures room { result.bytes.room ≡ min (vec_len bytes) 1000000000 }
         ensures notes { notes result ≡ [] }
         ensures silent { voices result ≡ replicate 128 None }
         ensures since { SinceNew result [] }
         ensures sound { WriterSound result }
         ensures idle { Idle (writer_meaning result) }
     {
-        let room = room_in(bytes.len());
         ByteWriter {
-            bytes,
-            room,
-            written: 0,
+            bytes: Buffer::new(bytes),
             roll: Roll::new(),
             sounding: Sounding::new(),
         }
@@ -46,36 +43,26 @@ impl ByteWriter {
 
     // How many bytes are written.
     pub fn written(&self) -> usize
-        ensures { result ≡ self.now.written }
+        ensures { result ≡ self.now.bytes.written }
     {
-        self.written
-    }
-
-    // The bytes, and how many of them are written.
-    fn parts(self) -> (Vec<u8>, usize)
-        ensures bytes { result.0 ≡ self.bytes }
-        ensures written { result.1 ≡ self.written }
-    {
-        let ByteWriter {
-            bytes,
-            room: _,
-            written,
-            roll: _,
-            sounding: _,
-        } = self;
-        (bytes, written)
+        self.bytes.written()
     }
 
     // Hands the bytes back, with how many of them are written.
     pub fn finish(self) -> (Vec<u8>, usize)
-        ensures bytes { result.0 ≡ self.bytes }
-        ensures written { result.1 ≡ self.written }
+        ensures bytes { result.0 ≡ self.bytes.items }
+        ensures written { result.1 ≡ self.bytes.written }
         ensures clean { WriterSound self → Clean (take result.1 result.0.items) }
         ensures heard { WriterSound self → Heard self }
         ensures messages { WriterSound self → (ms : List NoteMessage) × ReadBack self ms }
         ensures read_back { (ms : List NoteMessage) → SinceNew self ms → ReadBack self ms }
     {
-        self.parts()
+        let ByteWriter {
+            bytes,
+            roll: _,
+            sounding: _,
+        } = self;
+        bytes.finish()
     }
 }
 
@@ -108,43 +95,37 @@ impl Sink for ByteWriter {
         self.sounding.voice(ticket).is_some()
     }
 
-    fn start(&mut self, _place: u64, channel: u8, key: u8, velocity: u8) -> Result<u16, Cause> {
-        if !is_startable(channel, key, velocity) {
-            return Err(Cause::OutOfRange);
-        }
+    fn start(&mut self, _place: u64, note: NoteOn) -> Result<u16, Cause> {
+        let strike = Strike::try_from(note)?;
         self.check()?;
-        let struck = Key::of_start(channel, key, velocity);
-        Ok(self.begin(struck, velocity))
+        Ok(self.begin(strike))
     }
 
     fn release(&mut self, _place: u64, ticket: u16, velocity: u8) -> Result<(), Cause> {
         if velocity > 127 {
             return Err(Cause::OutOfRange);
         }
-        if self.roll.find(ticket).is_none() {
-            return Err(Cause::NotOwed);
-        }
+        self.roll.find(ticket).ok_or(Cause::NotOwed)?;
         self.stop(ticket, velocity);
         self.roll.drop_picked(Pick::Ticket(ticket));
         Ok(())
     }
 
     fn hush(&mut self, _place: u64, ticket: u16) -> Result<(), Cause> {
-        if self.roll.find(ticket).is_none() {
-            return Err(Cause::NotOwed);
-        }
+        self.roll.find(ticket).ok_or(Cause::NotOwed)?;
         self.stop(ticket, HUSHED);
         Ok(())
     }
 
-    fn tell(&mut self, _place: u64, channel: u8, controller: u8, value: u8) -> Result<(), Cause> {
-        if !is_tellable(channel, controller, value) {
+    // The two ends answer this alike, and `ready`, `sounds`, `set` and `clear`: a line or two each, and shared functions would be no fewer.
+    fn tell(&mut self, _place: u64, change: ControlChange) -> Result<(), Cause> {
+        if !change.is_tellable() {
             return Err(Cause::TellOutOfRange);
         }
         Ok(())
     }
 
-    fn set(&mut self, _place: u64, _depth: u32, _item: u32, _value: i32) -> Result<(), Cause> {
+    fn set(&mut self, _place: u64, _setting: Setting) -> Result<(), Cause> {
         Err(Cause::NoLayer)
     }
 

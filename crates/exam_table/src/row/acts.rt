@@ -3,11 +3,12 @@ ghost use Rattle.exam_table.specs.Rows.{end_of, Fed, Acts};
 
 use crate::row::Row;
 use run::Run;
+use sink::calls::Setting;
 use sink::sink::Sink;
 
 // Feeds bytes to a run.
 fn send<S: Sink>(run: &mut Run<S>, bytes: &[u8])
-    ensures { Fed S.Fault.Refusal.denial S.Sink.meaning S.Sink.sound S.Sink.does S.Sink.ends bytes.now run.old run.new }
+    ensures { Fed bytes.now run.old run.new }
 {
     let _ = run.feed(bytes);
 }
@@ -27,12 +28,16 @@ impl Row {
 
     // Plays the row: key 60 or the pedal by its bytes, the transposer by its setting.
     pub fn act<S: Sink>(self, run: &mut Run<S>)
-        ensures { Acts S.Fault.Refusal.denial S.Sink.meaning S.Sink.sound S.Sink.does S.Sink.ends self run.old run.new }
+        ensures { Acts self run.old run.new }
     {
         match self {
             Row::KeyDown => send(run, &[0x90, 60, 100]),
             Row::Transpose => {
-                let _ = run.set(0, 0, 12);
+                let _ = run.set(Setting {
+                    depth: 0,
+                    item: 0,
+                    value: 12,
+                });
             }
             Row::PedalDown => send(run, &[0xB0, 64, 127]),
             Row::KeyUp => send(run, &[0x80, 60, 64]),

@@ -12,8 +12,8 @@ use crate::hold::Hold;
 use roll::note::Pick;
 use rolled::rolled::Rolled;
 use rolled::switches::Switches;
+use sink::calls::{ControlChange, NoteOn, Setting};
 use sink::fault::{Cause, LayerFault};
-use sink::ranges::{is_startable, is_tellable};
 use sink::sink::Sink;
 
 impl<S: Sink> Hold<S> {
@@ -25,7 +25,10 @@ impl<S: Sink> Hold<S> {
         ensures sound { S.Sink.sound below → Idle (S.Sink.meaning below) → HoldSound S.Sink.meaning S.Sink.sound result }
         ensures idle { Idle (S.Sink.meaning below) → Idle (hold_meaning S.Sink.meaning result) }
     {
-        Hold::over(Rolled::new(below))
+        Hold {
+            rolled: Rolled::new(below),
+            pedals: Switches::all_off(),
+        }
     }
 
     // The sink below, handed back.
@@ -37,11 +40,12 @@ impl<S: Sink> Hold<S> {
     }
 
     // Whether a channel's pedal is down. Under a raised pedal no note is kept.
+    #[tactic(auto, using(crate::specs::Pedals::none_under_raised))]
     pub fn is_down(&self, channel: u8) -> bool
         ensures down { result ≡ slice_index_or self.now.pedals.on channel false }
         ensures raised { HoldSound S.Sink.meaning S.Sink.sound self.now → result ≡ false → tickets_of (picked (KeptOn channel)) (notes_of self.now.rolled) ≡ [] }
     {
-        self.pedal(channel)
+        self.pedals.is_on(channel)
     }
 }
 
@@ -66,6 +70,7 @@ impl<S: Sink> Sink for Hold<S> {
 
     ghost completes = { λ s h q. S.Sink.completes s.rolled.below h.rolled.below q };
 
+    // Handed on, as is `sounds`: Rust has no delegation, and the gate refuses an impl that a macro writes.
     fn ready(&self) -> Result<(), LayerFault<S::Fault>> {
         self.rolled.ready()
     }
@@ -74,20 +79,12 @@ impl<S: Sink> Sink for Hold<S> {
         self.rolled.below.sounds(ticket)
     }
 
-    fn start(
-        &mut self,
-        place: u64,
-        channel: u8,
-        key: u8,
-        velocity: u8,
-    ) -> Result<u16, LayerFault<S::Fault>> {
-        if !is_startable(channel, key, velocity) {
+    fn start(&mut self, place: u64, note: NoteOn) -> Result<u16, LayerFault<S::Fault>> {
+        if !note.is_startable() {
             return Err(LayerFault::Own(Cause::OutOfRange));
         }
-        if let Err(fault) = self.rolled.ready() {
-            return Err(fault);
-        }
-        self.rolled.start(place, channel, key, velocity)
+        self.rolled.ready()?;
+        self.rolled.start(place, note)
     }
 
     fn release(
@@ -116,30 +113,18 @@ impl<S: Sink> Sink for Hold<S> {
         self.rolled.hush(place, ticket)
     }
 
-    fn tell(
-        &mut self,
-        place: u64,
-        channel: u8,
-        controller: u8,
-        value: u8,
-    ) -> Result<(), LayerFault<S::Fault>> {
-        if !is_tellable(channel, controller, value) {
+    fn tell(&mut self, place: u64, change: ControlChange) -> Result<(), LayerFault<S::Fault>> {
+        if !change.is_tellable() {
             return Err(LayerFault::Own(Cause::TellOutOfRange));
         }
-        self.hear(place, channel, controller, value)
+        self.hear(place, change)
     }
 
-    fn set(
-        &mut self,
-        place: u64,
-        depth: u32,
-        item: u32,
-        value: i32,
-    ) -> Result<(), LayerFault<S::Fault>> {
-        if depth == 0 {
-            return Err(LayerFault::Own(Cause::NoSuchItem));
+    fn set(&mut self, place: u64, setting: Setting) -> Result<(), LayerFault<S::Fault>> {
+        if let Some(below) = setting.below() {
+            return self.rolled.set(place, below);
         }
-        self.rolled.set(place, depth - 1, item, value)
+        Err(LayerFault::Own(Cause::NoSuchItem))
     }
 
     fn clear(&mut self, place: u64) {

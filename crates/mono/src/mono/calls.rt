@@ -8,8 +8,9 @@ ghost use Rattle.mono.specs.Law.{mono_stands};
 use crate::mono::Mono;
 use crate::mono::modes::follow;
 use rolled::rolled::Rolled;
+use rolled::switches::Switches;
+use sink::calls::{ControlChange, NoteOn, Setting};
 use sink::fault::{Cause, LayerFault};
-use sink::ranges::{is_startable, is_tellable};
 use sink::sink::Sink;
 
 impl<S: Sink> Mono<S> {
@@ -21,7 +22,10 @@ impl<S: Sink> Mono<S> {
         ensures sound { S.Sink.sound below → Idle (S.Sink.meaning below) → MonoSound S.Sink.meaning S.Sink.sound result }
         ensures idle { Idle (S.Sink.meaning below) → Idle (mono_meaning S.Sink.meaning result) }
     {
-        Mono::over(Rolled::new(below))
+        Mono {
+            rolled: Rolled::new(below),
+            modes: Switches::all_off(),
+        }
     }
 
     // The sink below, handed back.
@@ -37,7 +41,7 @@ impl<S: Sink> Mono<S> {
         ensures mono { result ≡ slice_index_or self.now.modes.on channel false }
         ensures alone { MonoSound S.Sink.meaning S.Sink.sound self.now → OneSounds S.Fault.Refusal.denial S.Sink.meaning S.Sink.does channel result self.now }
     {
-        self.mode(channel)
+        self.modes.is_on(channel)
     }
 }
 
@@ -62,6 +66,7 @@ impl<S: Sink> Sink for Mono<S> {
 
     ghost completes = { λ s h q. S.Sink.completes s.rolled.below h.below q };
 
+    // Handed on, as are `sounds`, `hush` and `clear`: Rust has no delegation, and the gate refuses an impl that a macro writes.
     fn ready(&self) -> Result<(), LayerFault<S::Fault>> {
         self.rolled.ready()
     }
@@ -70,20 +75,12 @@ impl<S: Sink> Sink for Mono<S> {
         self.rolled.below.sounds(ticket)
     }
 
-    fn start(
-        &mut self,
-        place: u64,
-        channel: u8,
-        key: u8,
-        velocity: u8,
-    ) -> Result<u16, LayerFault<S::Fault>> {
-        if !is_startable(channel, key, velocity) {
+    fn start(&mut self, place: u64, note: NoteOn) -> Result<u16, LayerFault<S::Fault>> {
+        if !note.is_startable() {
             return Err(LayerFault::Own(Cause::OutOfRange));
         }
-        if let Err(fault) = self.rolled.ready() {
-            return Err(fault);
-        }
-        self.start_alone(place, channel, key, velocity)
+        self.rolled.ready()?;
+        self.start_alone(place, note)
     }
 
     fn release(
@@ -102,31 +99,19 @@ impl<S: Sink> Sink for Mono<S> {
         self.rolled.hush(place, ticket)
     }
 
-    fn tell(
-        &mut self,
-        place: u64,
-        channel: u8,
-        controller: u8,
-        value: u8,
-    ) -> Result<(), LayerFault<S::Fault>> {
-        if !is_tellable(channel, controller, value) {
+    fn tell(&mut self, place: u64, change: ControlChange) -> Result<(), LayerFault<S::Fault>> {
+        if !change.is_tellable() {
             return Err(LayerFault::Own(Cause::TellOutOfRange));
         }
-        follow(&mut self.modes, channel, controller);
-        self.rolled.tell(place, channel, controller, value)
+        follow(&mut self.modes, change);
+        self.rolled.tell(place, change)
     }
 
-    fn set(
-        &mut self,
-        place: u64,
-        depth: u32,
-        item: u32,
-        value: i32,
-    ) -> Result<(), LayerFault<S::Fault>> {
-        if depth == 0 {
-            return Err(LayerFault::Own(Cause::NoSuchItem));
+    fn set(&mut self, place: u64, setting: Setting) -> Result<(), LayerFault<S::Fault>> {
+        if let Some(below) = setting.below() {
+            return self.rolled.set(place, below);
         }
-        self.rolled.set(place, depth - 1, item, value)
+        Err(LayerFault::Own(Cause::NoSuchItem))
     }
 
     fn clear(&mut self, place: u64) {

@@ -3,9 +3,7 @@ use Rattle.playing.proofs.play.Goals as goal
 
 pub returns : goal.returns
 returns g c =
-    let k = g.S.Sink in
-    let sees = g.S.Fault.Refusal.denial in
     record {
-      fed = fed_by sees k.meaning k.sound k.does k.ends c.args.stack c.open-run.result.0 c.open-run.ensures c.args.bytes.now c.feed-fed.result c.feed-fed.new.self c.feed-fed.ensures;
-      left = λ ok idle. left_after sees k.meaning k.sound k.does k.ends c.args.stack c.open-run.result.0 c.open-run.ensures c.args.bytes.now c.feed-fed.result c.feed-fed.new.self c.close-tally.result.0 c.close-tally.result.1 ok idle c.feed-fed.ensures c.close-tally.ensures.rests;
+      fed = fed_by c.open-run.ensures c.args.bytes.now c.feed-fed.result c.feed-fed.new.self c.feed-fed.ensures;
+      left = λ ok idle. left_after c.open-run.ensures c.args.bytes.now c.feed-fed.result c.feed-fed.new.self c.close-tally.result.0 c.close-tally.result.1 ok idle c.feed-fed.ensures c.close-tally.ensures.rests;
     }

@@ -1,7 +1,8 @@
-ghost use Rattle.std.specs.Prelude.{◌≡◌, true, false, pos, MatchOption};
-ghost use Rattle.sink.specs.Calls.{within};
+ghost use Rattle.std.specs.Prelude.{◌≡◌};
+ghost use Rattle.quota.specs.Limits.{LimitOf};
 
 use crate::limit::Limit;
+use sink::fault::Cause;
 use sink::ranges::number_within;
 
 impl Limit {
@@ -11,14 +12,16 @@ impl Limit {
     {
         Limit { notes: 64 }
     }
+}
 
-    // The limit of a number of notes, if it is one.
-    pub fn of(value: i32) -> Option<Limit>
-        ensures { MatchOption result (within 1 64 value ≡ false) (λ l. (within 1 64 value ≡ true) × (pos l.notes ≡ value)) }
-    {
-        let Some(notes) = number_within(value, 1, 64) else {
-            return None;
-        };
-        Some(Limit { notes })
+// The limit of a number of notes, if it is one.
+impl TryFrom<i32> for Limit {
+    type Error = Cause;
+
+    ghost try_from_gives = { LimitOf };
+
+    fn try_from(value: i32) -> Result<Limit, Cause> {
+        let notes = number_within(value, 1, 64).ok_or(Cause::ValueOutOfRange)?;
+        Ok(Limit { notes })
     }
 }

@@ -2,7 +2,6 @@ ghost use Rattle.std.specs.Prelude.{◌≡◌, ◌≤◌, []};
 ghost use Rattle.sink.specs.Calls.{started};
 ghost use Rattle.sink.specs.Meaning.{Idle};
 ghost use Rattle.rolled.specs.Rolled.{notes_of};
-ghost use Rattle.quota.specs.Hushing.{HushedDown};
 ghost use Rattle.quota.specs.Quota.{quota_meaning, QuotaSound, QuotaDoes, Started, AtMost};
 ghost use Rattle.rolled.proofs.Onward.{none_owns, rolled_orderly};
 ghost use Rattle.quota.specs.Law.{quota_stands};
@@ -10,10 +9,9 @@ ghost use Rattle.quota.specs.Law.{quota_stands};
 use crate::limit::Limit;
 use crate::order::Order;
 use crate::quota::Quota;
-use crate::quota::hushing::hush_down;
 use rolled::rolled::Rolled;
+use sink::calls::{ControlChange, NoteOn, Setting};
 use sink::fault::{Cause, LayerFault};
-use sink::ranges::{is_startable, is_tellable};
 use sink::sink::Sink;
 
 impl<S: Sink, O: Order> Quota<S, O> {
@@ -26,17 +24,8 @@ impl<S: Sink, O: Order> Quota<S, O> {
         ensures sound { S.Sink.sound below → Idle (S.Sink.meaning below) → QuotaSound S.Sink.meaning S.Sink.sound result }
         ensures idle { Idle (S.Sink.meaning below) → Idle (quota_meaning S.Sink.meaning result) }
     {
-        Quota::over(Rolled::new(below), order)
-    }
-
-    // A quota over a sink with its roll, with the highest limit.
-    fn over(rolled: Rolled<S>, order: O) -> Quota<S, O>
-        ensures rolled { result.rolled ≡ rolled }
-        ensures limit { result.limit.notes ≡ 64 }
-        ensures order { result.order ≡ order }
-    {
         Quota {
-            rolled,
+            rolled: Rolled::new(below),
             limit: Limit::highest(),
             order,
         }
@@ -61,44 +50,16 @@ impl<S: Sink, O: Order> Quota<S, O> {
         ensures most { result ≤ 64 }
         ensures few { QuotaSound S.Sink.meaning S.Sink.sound self.now → AtMost result (quota_meaning S.Sink.meaning self.now) }
     {
-        self.most()
-    }
-
-    // How many notes may sound.
-    fn most(&self) -> u8
-        ensures { result ≡ self.now.limit.notes }
-    {
         self.limit.notes
     }
 
-    // Hushes notes until at most so many sound.
-    fn make_room(&mut self, place: u64, most: u8)
-        ensures rolled { HushedDown S.Sink.meaning S.Sink.does (O.Order.before self.old.order) place most self.old.rolled self.new.rolled }
-        ensures limit { self.new.limit ≡ self.old.limit }
-        ensures order { self.new.order ≡ self.old.order }
-    {
-        hush_down(
-            &self.order,
-            &self.rolled.roll,
-            &mut self.rolled.below,
-            place,
-            usize::from(most),
-        );
-    }
-
     // Hushes notes until fewer than the limit sound, and hands a start on.
-    fn start_within(
-        &mut self,
-        place: u64,
-        channel: u8,
-        key: u8,
-        velocity: u8,
-    ) -> Result<u16, LayerFault<S::Fault>>
-        ensures { Started S.Fault.Refusal.denial S.Sink.meaning S.Sink.does O.Order.before place channel key velocity self.old (started result) self.new }
+    fn start_within(&mut self, place: u64, note: NoteOn) -> Result<u16, LayerFault<S::Fault>>
+        ensures { Started S.Fault.Refusal.denial S.Sink.meaning S.Sink.does O.Order.before place note.channel note.key note.velocity self.old (started result) self.new }
     {
         let limit = self.limit;
         self.make_room(place, limit.notes - 1);
-        self.rolled.start(place, channel, key, velocity)
+        self.rolled.start(place, note)
     }
 }
 
@@ -123,6 +84,7 @@ impl<S: Sink, O: Order> Sink for Quota<S, O> {
 
     ghost completes = { λ s h q. S.Sink.completes s.rolled.below h.rolled.below q };
 
+    // Handed on, as are `sounds`, `hush` and `clear`: Rust has no delegation, and the gate refuses an impl that a macro writes.
     fn ready(&self) -> Result<(), LayerFault<S::Fault>> {
         self.rolled.ready()
     }
@@ -131,20 +93,12 @@ impl<S: Sink, O: Order> Sink for Quota<S, O> {
         self.rolled.below.sounds(ticket)
     }
 
-    fn start(
-        &mut self,
-        place: u64,
-        channel: u8,
-        key: u8,
-        velocity: u8,
-    ) -> Result<u16, LayerFault<S::Fault>> {
-        if !is_startable(channel, key, velocity) {
+    fn start(&mut self, place: u64, note: NoteOn) -> Result<u16, LayerFault<S::Fault>> {
+        if !note.is_startable() {
             return Err(LayerFault::Own(Cause::OutOfRange));
         }
-        if let Err(fault) = self.rolled.ready() {
-            return Err(fault);
-        }
-        self.start_within(place, channel, key, velocity)
+        self.rolled.ready()?;
+        self.start_within(place, note)
     }
 
     fn release(
@@ -163,38 +117,29 @@ impl<S: Sink, O: Order> Sink for Quota<S, O> {
         self.rolled.hush(place, ticket)
     }
 
-    fn tell(
-        &mut self,
-        place: u64,
-        channel: u8,
-        controller: u8,
-        value: u8,
-    ) -> Result<(), LayerFault<S::Fault>> {
-        if !is_tellable(channel, controller, value) {
+    fn tell(&mut self, place: u64, change: ControlChange) -> Result<(), LayerFault<S::Fault>> {
+        if !change.is_tellable() {
             return Err(LayerFault::Own(Cause::TellOutOfRange));
         }
-        self.rolled.tell(place, channel, controller, value)
+        self.rolled.tell(place, change)
     }
 
-    fn set(
-        &mut self,
-        place: u64,
-        depth: u32,
-        item: u32,
-        value: i32,
-    ) -> Result<(), LayerFault<S::Fault>> {
-        if depth != 0 {
-            return self.rolled.set(place, depth - 1, item, value);
+    fn set(&mut self, place: u64, setting: Setting) -> Result<(), LayerFault<S::Fault>> {
+        if let Some(below) = setting.below() {
+            return self.rolled.set(place, below);
         }
-        if item != 0 {
+        if setting.item != 0 {
             return Err(LayerFault::Own(Cause::NoSuchItem));
         }
-        let Some(limit) = Limit::of(value) else {
-            return Err(LayerFault::Own(Cause::ValueOutOfRange));
-        };
-        self.make_room(place, limit.notes);
-        self.limit = limit;
-        Ok(())
+        // `map_err` was tried: the checker has no rule for a closure whose result names `S::Fault`.
+        match Limit::try_from(setting.value) {
+            Ok(limit) => {
+                self.make_room(place, limit.notes);
+                self.limit = limit;
+                Ok(())
+            }
+            Err(cause) => Err(LayerFault::Own(cause)),
+        }
     }
 
     fn clear(&mut self, place: u64) {

@@ -1,4 +1,4 @@
-ghost use Rattle.std.specs.Prelude.{◌≡◌, ℕ, ◌<◌, ◌≤◌, true, false, [], ◌∷◌, ◌++◌, take, if◌then◌else◌, Some, None, nat_lt, slice_index_or, slice_set};
+ghost use Rattle.std.specs.Prelude.{◌≡◌, ℕ, ◌<◌, ◌≤◌, true, false, [], ◌∷◌, ◌++◌, take, IfSome, option_map, unwrap_or, slice_index_or};
 ghost use Rattle.roll.specs.Notes.{found, picked, left_out, marked, marked_at, blank, full, added, lists};
 ghost use Rattle.roll.specs.Rolls.{listed};
 
@@ -23,47 +23,20 @@ impl Roll {
         self.count >= 128
     }
 
-    // The note at a place, the oldest at 0; past the last a blank one.
-    pub fn at(&self, i: usize) -> Note
-        ensures { result ≡ slice_index_or (listed self.now) i blank }
+    // The place of the first note with a ticket.
+    fn index(&self, ticket: u16) -> Option<usize>
+        ensures within { IfSome result (λ i. i < self.now.count) }
+        ensures finds { found ticket (listed self.now) ≡ option_map (λ i. slice_index_or self.now.notes i blank) result }
+        ensures marks { marked ticket (listed self.now) ≡ unwrap_or (option_map (λ i. take self.now.count (marked_at i self.now.notes)) result) (listed self.now) }
     {
-        if i < self.count {
-            return self.note(i);
-        }
-        Note::BLANK
-    }
-
-    // The note at a place in use.
-    fn note(&self, i: usize) -> Note
-        requires { i < self.now.count }
-        ensures { result ≡ slice_index_or self.now.notes i blank }
-    {
-        self.notes[i]
-    }
-
-    // The place of the first note with a ticket, or the count where there is none.
-    fn index(&self, ticket: u16) -> usize
-        ensures within { result ≤ self.now.count }
-        ensures finds { found ticket (listed self.now) ≡ (if nat_lt result self.now.count then Some (slice_index_or self.now.notes result blank) else None) }
-        ensures marks { marked ticket (listed self.now) ≡ (if nat_lt result self.now.count then take self.now.count (marked_at result self.now.notes) else listed self.now) }
-    {
-        for i in 0..self.count {
-            if self.notes[i].ticket == ticket {
-                return i;
-            }
-        }
-        self.count
+        self.notes().iter().position(|note| note.ticket == ticket)
     }
 
     // The note of a ticket, if the roll has it.
     pub fn find(&self, ticket: u16) -> Option<Note>
         ensures { result ≡ found ticket (listed self.now) }
     {
-        let i = self.index(ticket);
-        if i < self.count {
-            return Some(self.notes[i]);
-        }
-        None
+        self.index(ticket).map(|i| self.notes[i])
     }
 
     // The least ticket that the roll does not have; a full roll may have all below 128.
@@ -72,12 +45,9 @@ impl Roll {
         ensures fresh { full (listed self.now) ≡ false → lists (listed self.now) result ≡ false }
         ensures least { (u : ℕ) → u < result → lists (listed self.now) u ≡ true }
     {
-        for ticket in 0..127 {
-            if self.find(ticket).is_none() {
-                return ticket;
-            }
-        }
-        127
+        (0..127)
+            .find(|ticket| self.find(*ticket).is_none())
+            .unwrap_or(127)
     }
 
     // One more note, the youngest; a full roll stays as it is.
@@ -97,6 +67,7 @@ impl Roll {
         self.count += 1;
     }
 
+    // Marks the note at a place as kept.
     fn mark_at(&mut self, i: usize)
         requires { i < 128 }
         ensures count { self.new.count ≡ self.old.count }
@@ -110,34 +81,22 @@ impl Roll {
     pub fn mark(&mut self, ticket: u16)
         ensures { listed self.new ≡ marked ticket (listed self.old) }
     {
-        let i = self.index(ticket);
-        if i < self.count {
+        if let Some(i) = self.index(ticket) {
             self.mark_at(i);
         }
-    }
-
-    // Writes the note at one place to another.
-    fn move_note(&mut self, from: usize, to: usize)
-        requires { (from < 128) × (to < 128) }
-        ensures count { self.new.count ≡ self.old.count }
-        ensures notes { self.new.notes ≡ slice_set self.old.notes to (slice_index_or self.old.notes from blank) }
-    {
-        let note = self.notes[from];
-        self.notes[to] = note;
     }
 
     // Drops the notes that are meant; the others keep their order.
     pub fn drop_picked(&mut self, pick: Pick)
         ensures { listed self.new ≡ left_out (picked pick) (listed self.old) }
     {
-        let mut stay = 0;
-        for i in 0..self.count {
-            let stays = !pick.takes(self.notes[i]);
-            if stays {
-                self.move_note(i, stay);
-                stay += 1;
+        let notes = self.notes;
+        let count = self.count;
+        self.count = 0;
+        for note in &notes[..count] {
+            if !pick.takes(*note) {
+                self.push(*note);
             }
         }
-        self.count = stay;
     }
 }

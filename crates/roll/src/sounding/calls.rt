@@ -3,12 +3,6 @@ ghost use Rattle.roll.specs.Voices.{one, voice as voice_of};
 
 use crate::sounding::Sounding;
 
-fn voices<V: Copy>(voice: Option<V>) -> usize
-    ensures { result ≡ one (is_some voice) }
-{
-    if voice.is_some() { 1 } else { 0 }
-}
-
 impl<V: Copy> Sounding<V> {
     pub fn new() -> Sounding<V>
         ensures voices { result.voices ≡ replicate 128 None }
@@ -31,8 +25,7 @@ impl<V: Copy> Sounding<V> {
     pub fn voice(&self, ticket: u16) -> Option<V>
         ensures { result ≡ voice_of self.now.voices ticket }
     {
-        let i = ticket as usize;
-        if i < 128 { self.voices[i] } else { None }
+        self.voices.get(usize::from(ticket)).copied().flatten()
     }
 
     // A ticket sounds from now on.
@@ -56,12 +49,13 @@ impl<V: Copy> Sounding<V> {
         ensures most { self.new.count + one (is_some (voice_of self.old.voices ticket)) ≤ self.old.count + one (is_some voice) }
         ensures least { self.old.count ≤ self.new.count + one (is_some (voice_of self.old.voices ticket)) }
     {
-        let i = ticket as usize;
-        if i < 128 {
-            let before = voices(self.voice(ticket));
-            let after = voices(voice);
+        let before = self.voice(ticket);
+        let i = usize::from(ticket);
+        // Tried with `get_mut`: the proof does not close, since it knows no element of an array after that.
+        if i < self.voices.len() {
             self.voices[i] = voice;
-            self.count = self.count - before + after;
+            self.count -= usize::from(before.is_some());
+            self.count += usize::from(voice.is_some());
         }
     }
 }

@@ -9,7 +9,7 @@ ghost use Rattle.rolled.specs.Rolled.{notes_of, Onward};
 use crate::rolled::Rolled;
 use roll::note::{Note, Pick};
 use roll::roll::Roll;
-use sink::fault::refusal::raise;
+use sink::calls::{ControlChange, NoteOn, Setting};
 use sink::fault::{Cause, LayerFault};
 use sink::sink::Sink;
 
@@ -36,41 +36,26 @@ impl<S: Sink> Rolled<S> {
     pub fn ready(&self) -> Result<(), LayerFault<S::Fault>>
         ensures { whether (layer_denial S.Fault.Refusal.denial) result ≡ ready_over (full (notes_of self.now)) (S.Sink.meaning self.now.below).ready }
     {
-        match self.below.ready() {
-            Err(fault) => Err(LayerFault::Below(fault)),
-            Ok(()) => {
-                if self.roll.is_full() {
-                    Err(LayerFault::Own(Cause::AllOut))
-                } else {
-                    Ok(())
-                }
-            }
+        self.below.ready()?;
+        if self.roll.is_full() {
+            return Err(LayerFault::Own(Cause::AllOut));
         }
+        Ok(())
     }
 
     // Hands a start on; its note joins the roll.
-    pub fn start(
-        &mut self,
-        place: u64,
-        channel: u8,
-        key: u8,
-        velocity: u8,
-    ) -> Result<u16, LayerFault<S::Fault>>
-        ensures { Onward S.Sink.does (Start place channel key velocity) self.old (started result) self.new }
+    pub fn start(&mut self, place: u64, note: NoteOn) -> Result<u16, LayerFault<S::Fault>>
+        ensures { Onward S.Sink.does (Start place note.channel note.key note.velocity) self.old (started result) self.new }
     {
-        match self.below.start(place, channel, key, velocity) {
-            Ok(ticket) => {
-                self.roll.add(Note {
-                    ticket,
-                    channel,
-                    key,
-                    velocity,
-                    kept: false,
-                });
-                Ok(ticket)
-            }
-            Err(fault) => Err(LayerFault::Below(fault)),
-        }
+        let ticket = self.below.start(place, note)?;
+        self.roll.add(Note {
+            ticket,
+            channel: note.channel,
+            key: note.key,
+            velocity: note.velocity,
+            kept: false,
+        });
+        Ok(ticket)
     }
 
     // Hands a release on; its note leaves the roll.
@@ -82,43 +67,27 @@ impl<S: Sink> Rolled<S> {
     ) -> Result<(), LayerFault<S::Fault>>
         ensures { Onward S.Sink.does (Release place ticket velocity) self.old (finished result) self.new }
     {
-        match self.below.release(place, ticket, velocity) {
-            Ok(()) => {
-                self.roll.drop_picked(Pick::Ticket(ticket));
-                Ok(())
-            }
-            Err(fault) => Err(LayerFault::Below(fault)),
-        }
+        self.below.release(place, ticket, velocity)?;
+        self.roll.drop_picked(Pick::Ticket(ticket));
+        Ok(())
     }
 
     pub fn hush(&mut self, place: u64, ticket: u16) -> Result<(), LayerFault<S::Fault>>
         ensures { Onward S.Sink.does (Hush place ticket) self.old (finished result) self.new }
     {
-        raise(self.below.hush(place, ticket))
+        Ok(self.below.hush(place, ticket)?)
     }
 
-    pub fn tell(
-        &mut self,
-        place: u64,
-        channel: u8,
-        controller: u8,
-        value: u8,
-    ) -> Result<(), LayerFault<S::Fault>>
-        ensures { Onward S.Sink.does (Tell place channel controller value) self.old (finished result) self.new }
+    pub fn tell(&mut self, place: u64, change: ControlChange) -> Result<(), LayerFault<S::Fault>>
+        ensures { Onward S.Sink.does (Tell place change.channel change.controller change.value) self.old (finished result) self.new }
     {
-        raise(self.below.tell(place, channel, controller, value))
+        Ok(self.below.tell(place, change)?)
     }
 
-    pub fn set(
-        &mut self,
-        place: u64,
-        depth: u32,
-        item: u32,
-        value: i32,
-    ) -> Result<(), LayerFault<S::Fault>>
-        ensures { Onward S.Sink.does (Set place depth item value) self.old (finished result) self.new }
+    pub fn set(&mut self, place: u64, setting: Setting) -> Result<(), LayerFault<S::Fault>>
+        ensures { Onward S.Sink.does (Set place setting.depth setting.item setting.value) self.old (finished result) self.new }
     {
-        raise(self.below.set(place, depth, item, value))
+        Ok(self.below.set(place, setting)?)
     }
 
     pub fn clear(&mut self, place: u64)

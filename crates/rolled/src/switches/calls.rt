@@ -13,17 +13,17 @@ impl Switches {
     pub fn is_on(&self, channel: u8) -> bool
         ensures { result ≡ slice_index_or self.now.on channel false }
     {
-        let c = channel as usize;
-        if c < 16 { self.on[c] } else { false }
+        self.on.get(usize::from(channel)).copied().unwrap_or(false)
     }
 
     // Turns a channel's switch on or off.
     pub fn put(&mut self, channel: u8, on: bool)
         ensures { self.new.on ≡ slice_set self.old.on channel on }
     {
-        let c = channel as usize;
-        if c < 16 {
-            self.on[c] = on;
+        // A write through `get_mut` gets no proof: its contract does not say what the array ends as.
+        let i = usize::from(channel);
+        if i < self.on.len() {
+            self.on[i] = on;
         }
     }
 }

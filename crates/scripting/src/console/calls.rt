@@ -1,20 +1,31 @@
 ghost use Rattle.std.specs.Prelude.{◌≡◌, ◌≤◌, take, vec_len};
 ghost use Rattle.byte_writer.specs.Receiver.{Clean, Complete};
 ghost use Rattle.run.specs.Counting.{tally_of};
-ghost use Rattle.scripting.specs.Consoles.{Opens, FeedsIt, SetsIt, ClosesIt};
+ghost use Rattle.run.specs.Past.{Feeds, Sets};
+ghost use Rattle.sink.specs.Calls.{finished};
+ghost use Rattle.scripting.specs.Consoles.{Opens, ClosesIt};
 
-use crate::answers::Answer;
 use crate::console::Console;
-use run::{Run, Tally};
+use run::{Run, Tally, TooManyBytes};
+use sink::calls::Setting;
 use sink::sink::Sink;
 use stacks::console_stack::{ConsoleFault, console_stack, into_bytes};
 
-// What a closed console leaves: the tally, and the bytes of which the first `written` were written.
+// What a closed console leaves: the tally, and the bytes of which the first `written` were written. They stand whole, as it was handed them.
 #[derive(Drop)]
 pub struct Written {
     pub tally: Tally<ConsoleFault>,
     pub bytes: Vec<u8>,
     pub written: usize,
+}
+
+impl Written {
+    // The bytes that were written.
+    pub fn written_bytes(&self) -> &[u8]
+        ensures { result.now ≡ take self.now.written self.now.bytes.items }
+    {
+        &self.bytes[..self.written.min(self.bytes.len())]
+    }
 }
 
 impl Console {
@@ -26,22 +37,16 @@ impl Console {
         Console { run, slip }
     }
 
-    pub fn feed(&mut self, bytes: &[u8]) -> Answer<ConsoleFault>
-        ensures { FeedsIt bytes.now self.old.run result self.new.run }
+    pub fn feed(&mut self, bytes: &[u8]) -> Result<(), TooManyBytes>
+        ensures { Feeds bytes.now self.old.run result self.new.run }
     {
-        match self.run.feed(bytes) {
-            Ok(()) => Answer::Done,
-            Err(_) => Answer::TooManyBytes,
-        }
+        self.run.feed(bytes)
     }
 
-    pub fn set(&mut self, depth: u32, item: u32, value: i32) -> Answer<ConsoleFault>
-        ensures { SetsIt depth item value self.old.run result self.new.run }
+    pub fn set(&mut self, setting: Setting) -> Result<(), ConsoleFault>
+        ensures { Sets setting.depth setting.item setting.value self.old.run (finished result) self.new.run }
     {
-        match self.run.set(depth, item, value) {
-            Ok(()) => Answer::Done,
-            Err(fault) => Answer::Denied(fault),
-        }
+        self.run.set(setting)
     }
 
     // What was counted so far.

@@ -1,7 +1,6 @@
 ghost use Rattle.std.specs.Prelude.{◌≡◌};
 ghost use Rattle.sink.specs.Faults.{Denial, here, layer_denial};
-ghost use Rattle.sink.specs.Calls.{started, finished};
-ghost use Rattle.sink.specs.Layered.{passed};
+ghost use Rattle.sink.specs.declared.fault.LayerFault.TheVariants.{Below};
 
 use crate::fault::{Cause, LayerFault};
 
@@ -20,16 +19,7 @@ impl Refusal for Cause {
     ghost denial = { here };
 
     fn number(&self) -> u8 {
-        match self {
-            Cause::OutOfRange => 1,
-            Cause::AllOut => 2,
-            Cause::NoSpace => 3,
-            Cause::NotOwed => 4,
-            Cause::TellOutOfRange => 5,
-            Cause::NoLayer => 6,
-            Cause::NoSuchItem => 7,
-            Cause::ValueOutOfRange => 8,
-        }
+        *self as u8
     }
 
     fn depth(&self) -> u8 {
@@ -55,22 +45,11 @@ impl<F: Refusal> Refusal for LayerFault<F> {
     }
 }
 
-// The answer of below to a start, its fault carried up whole.
-pub fn raise_ticket<F: Refusal>(answer: Result<u16, F>) -> Result<u16, LayerFault<F>>
-    ensures { started result ≡ passed (started answer) }
-{
-    match answer {
-        Ok(ticket) => Ok(ticket),
-        Err(fault) => Err(LayerFault::Below(fault)),
-    }
-}
+// The fault of below, carried up whole.
+impl<F: Refusal> From<F> for LayerFault<F> {
+    ghost from_gives = { λ below fault. fault ≡ Below below };
 
-// The answer of below to any other call, its fault carried up whole.
-pub fn raise<F: Refusal>(answer: Result<(), F>) -> Result<(), LayerFault<F>>
-    ensures { finished result ≡ passed (finished answer) }
-{
-    match answer {
-        Ok(()) => Ok(()),
-        Err(below) => Err(LayerFault::Below(below)),
+    fn from(below: F) -> LayerFault<F> {
+        LayerFault::Below(below)
     }
 }

@@ -8,9 +8,8 @@ ghost use Rattle.std.proofs.Common.{rules};
 
 use crate::split::Split;
 use crate::zones::Zones;
-use sink::fault::refusal::{raise, raise_ticket};
+use sink::calls::{ControlChange, NoteOn, Setting};
 use sink::fault::{Cause, LayerFault};
-use sink::ranges::{is_startable, is_tellable};
 use sink::sink::Sink;
 
 impl<S: Sink> Split<S> {
@@ -41,35 +40,38 @@ impl<S: Sink> Split<S> {
         place: u64,
         low: u8,
         high: u8,
-        controller: u8,
-        value: u8,
+        change: ControlChange,
     ) -> Result<(), LayerFault<S::Fault>>
-        ensures { Both S.Sink.does place low high controller value self.old (finished result) self.new }
+        ensures { Both S.Sink.does place low high change.controller change.value self.old (finished result) self.new }
     {
-        if let Err(fault) = self.below.tell(place, low, controller, value) {
-            return Err(LayerFault::Below(fault));
-        }
-        raise(self.below.tell(place, high, controller, value))
+        let to_low = ControlChange {
+            channel: low,
+            ..change
+        };
+        let to_high = ControlChange {
+            channel: high,
+            ..change
+        };
+        self.below.tell(place, to_low)?;
+        Ok(self.below.tell(place, to_high)?)
     }
 
     // Hands a tell to both sides of its channel, or on as it is.
-    fn tell_sides(
-        &mut self,
-        place: u64,
-        channel: u8,
-        controller: u8,
-        value: u8,
-    ) -> Result<(), LayerFault<S::Fault>>
-        ensures { Tells S.Sink.does place channel controller value self.old (finished result) self.new }
+    fn tell_sides(&mut self, place: u64, change: ControlChange) -> Result<(), LayerFault<S::Fault>>
+        ensures { Tells S.Sink.does place change.channel change.controller change.value self.old (finished result) self.new }
     {
         let zones = self.zones;
-        if channel != zones.channel {
-            return raise(self.below.tell(place, channel, controller, value));
+        if change.channel != zones.channel {
+            return Ok(self.below.tell(place, change)?);
         }
         if zones.low == zones.high {
-            return raise(self.below.tell(place, zones.low, controller, value));
+            let to_both = ControlChange {
+                channel: zones.low,
+                ..change
+            };
+            return Ok(self.below.tell(place, to_both)?);
         }
-        self.tell_both(place, zones.low, zones.high, controller, value)
+        self.tell_both(place, zones.low, zones.high, change)
     }
 }
 
@@ -94,26 +96,21 @@ impl<S: Sink> Sink for Split<S> {
 
     ghost completes = { Prim.search rules };
 
+    // Handed on, as are `sounds`, `hush` and `clear`: Rust has no delegation, and the gate refuses an impl that a macro writes.
     fn ready(&self) -> Result<(), LayerFault<S::Fault>> {
-        raise(self.below.ready())
+        Ok(self.below.ready()?)
     }
 
     fn sounds(&self, ticket: u16) -> bool {
         self.below.sounds(ticket)
     }
 
-    fn start(
-        &mut self,
-        place: u64,
-        channel: u8,
-        key: u8,
-        velocity: u8,
-    ) -> Result<u16, LayerFault<S::Fault>> {
-        if !is_startable(channel, key, velocity) {
+    fn start(&mut self, place: u64, note: NoteOn) -> Result<u16, LayerFault<S::Fault>> {
+        if !note.is_startable() {
             return Err(LayerFault::Own(Cause::OutOfRange));
         }
-        let sent = self.zones.send(channel, key);
-        raise_ticket(self.below.start(place, sent, key, velocity))
+        let channel = self.zones.send(note);
+        Ok(self.below.start(place, NoteOn { channel, ..note })?)
     }
 
     fn release(
@@ -125,44 +122,29 @@ impl<S: Sink> Sink for Split<S> {
         if velocity > 127 {
             return Err(LayerFault::Own(Cause::OutOfRange));
         }
-        raise(self.below.release(place, ticket, velocity))
+        Ok(self.below.release(place, ticket, velocity)?)
     }
 
     fn hush(&mut self, place: u64, ticket: u16) -> Result<(), LayerFault<S::Fault>> {
-        raise(self.below.hush(place, ticket))
+        Ok(self.below.hush(place, ticket)?)
     }
 
-    fn tell(
-        &mut self,
-        place: u64,
-        channel: u8,
-        controller: u8,
-        value: u8,
-    ) -> Result<(), LayerFault<S::Fault>> {
-        if !is_tellable(channel, controller, value) {
+    fn tell(&mut self, place: u64, change: ControlChange) -> Result<(), LayerFault<S::Fault>> {
+        if !change.is_tellable() {
             return Err(LayerFault::Own(Cause::TellOutOfRange));
         }
-        self.tell_sides(place, channel, controller, value)
+        self.tell_sides(place, change)
     }
 
-    fn set(
-        &mut self,
-        place: u64,
-        depth: u32,
-        item: u32,
-        value: i32,
-    ) -> Result<(), LayerFault<S::Fault>> {
-        if depth != 0 {
-            return raise(self.below.set(place, depth - 1, item, value));
+    fn set(&mut self, place: u64, setting: Setting) -> Result<(), LayerFault<S::Fault>> {
+        if let Some(below) = setting.below() {
+            return Ok(self.below.set(place, below)?);
         }
-        if item > 3 {
-            return Err(LayerFault::Own(Cause::NoSuchItem));
+        // `map_err` was tried: the checker has no rule for a closure whose result names `S::Fault`.
+        match self.zones.set(setting.item, setting.value) {
+            Ok(()) => Ok(()),
+            Err(cause) => Err(LayerFault::Own(cause)),
         }
-        let Some(zones) = self.zones.with(item, value) else {
-            return Err(LayerFault::Own(Cause::ValueOutOfRange));
-        };
-        self.zones = zones;
-        Ok(())
     }
 
     fn clear(&mut self, place: u64) {

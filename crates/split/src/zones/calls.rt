@@ -1,10 +1,22 @@
-ghost use Rattle.std.specs.Prelude.{◌≡◌, true, false, MatchOption};
-ghost use Rattle.split.specs.Zones.{AllZero, side, sent_to, is_value, Changed};
+ghost use Rattle.std.specs.Prelude.{◌≡◌, true, false, pos, MatchResult};
+ghost use Rattle.sink.specs.Calls.{within};
+ghost use Rattle.split.specs.Zones.{AllZero, side, sent_to, is_value, Changed, ZonesSet};
+ghost use Rattle.sink.specs.declared.fault.Cause.TheVariants.{ValueOutOfRange};
 
 use crate::zones::Zones;
+use sink::calls::NoteOn;
+use sink::fault::Cause;
 use sink::ranges::number_within;
 
+// An item's value as a number, at most so high.
+fn number(value: i32, most: u8) -> Result<u8, Cause>
+    ensures { MatchResult result (λ n. (within 0 most value ≡ true) × (pos n ≡ value)) (λ e. (within 0 most value ≡ false) × (e ≡ ValueOutOfRange)) }
+{
+    number_within(value, 0, most).ok_or(Cause::ValueOutOfRange)
+}
+
 impl Zones {
+    // All items 0. No `Default` can be derived for a struct with ghost fields, and one written out is no plainer.
     pub fn new() -> Zones
         ensures { AllZero result }
     {
@@ -17,58 +29,29 @@ impl Zones {
     }
 
     // The channel that a start goes to: a key below the split's goes low, any other high.
-    pub fn send(self, channel: u8, key: u8) -> u8
-        ensures { result ≡ sent_to self channel key }
+    pub fn send(self, note: NoteOn) -> u8
+        ensures { result ≡ sent_to self note.channel note.key }
     {
-        if channel != self.channel {
-            channel
-        } else if key < self.key {
+        if note.channel != self.channel {
+            note.channel
+        } else if note.key < self.key {
             self.low
         } else {
             self.high
         }
     }
 
-    // The zones with an item set, if the value lies in its range; they have no item past 3.
-    pub fn with(self, item: u32, value: i32) -> Option<Zones>
-        ensures { MatchOption result (is_value item value ≡ false) (λ z. (is_value item value ≡ true) × Changed item value self z) }
+    // Sets an item: 0 is the channel, 1 the key, 2 the low and 3 the high channel.
+    pub fn set(&mut self, item: u32, value: i32) -> Result<(), Cause>
+        ensures { ZonesSet item value self.old result self.new }
     {
-        let most = if item == 1 { 128 } else { 15 };
-        let Some(number) = number_within(value, 0, most) else {
-            return None;
-        };
-        let Zones {
-            channel,
-            key,
-            low,
-            high,
-        } = self;
         match item {
-            0 => Some(Zones {
-                channel: number,
-                key,
-                low,
-                high,
-            }),
-            1 => Some(Zones {
-                channel,
-                key: number,
-                low,
-                high,
-            }),
-            2 => Some(Zones {
-                channel,
-                key,
-                low: number,
-                high,
-            }),
-            3 => Some(Zones {
-                channel,
-                key,
-                low,
-                high: number,
-            }),
-            _ => Some(self),
+            0 => self.channel = number(value, 15)?,
+            1 => self.key = number(value, 128)?,
+            2 => self.low = number(value, 15)?,
+            3 => self.high = number(value, 15)?,
+            _ => return Err(Cause::NoSuchItem),
         }
+        Ok(())
     }
 }

@@ -1,20 +1,20 @@
-ghost use Rattle.std.specs.Prelude.{◌≡◌, ℕ, true, false, pos, ◌+ℤ◌, ◌-ℤ◌, ◌<ℤ◌, MatchOption};
-ghost use Rattle.transposer.specs.Shift.{in_range, Folds};
+ghost use Rattle.std.specs.Prelude.{◌≡◌, ℕ, pos, ◌+ℤ◌, ◌-ℤ◌, ◌<ℤ◌};
+ghost use Rattle.transposer.specs.Shift.{Folds};
+ghost use Rattle.transposer.specs.Shifts.{ShiftOf};
 
 use crate::shift::Shift;
+use sink::fault::Cause;
 
-fn octave_off(number: i32) -> i32
-    requires { pos 127 <ℤ number }
-    ensures { result ≡ number -ℤ pos 12 }
+// A number that is no key, an octave nearer to the keys.
+fn octave_nearer(number: i32) -> i32
+    ensures off { pos 127 <ℤ number → result ≡ number -ℤ pos 12 }
+    ensures on { number <ℤ pos 0 → result ≡ number +ℤ pos 12 }
 {
-    number - 12
-}
-
-fn octave_on(number: i32) -> i32
-    requires { number <ℤ pos 0 }
-    ensures { result ≡ number +ℤ pos 12 }
-{
-    number + 12
+    if number > 127 {
+        number - 12
+    } else {
+        number + 12
+    }
 }
 
 impl Shift {
@@ -22,16 +22,6 @@ impl Shift {
         ensures { result.semitones ≡ pos 0 }
     {
         Shift { semitones: 0 }
-    }
-
-    // The shift of a number of semitones, if it is one.
-    pub fn of(semitones: i32) -> Option<Shift>
-        ensures { MatchOption result (in_range semitones ≡ false) (λ s. (in_range semitones ≡ true) × (s.semitones ≡ semitones)) }
-    {
-        if semitones < -48 || semitones > 48 {
-            return None;
-        }
-        Some(Shift { semitones })
     }
 
     // By how many semitones the two move a key together.
@@ -47,12 +37,24 @@ impl Shift {
         ensures only { (k : ℕ) → Folds (pos key +ℤ self.now.semitones) k → k ≡ result }
     {
         let mut moved = i32::from(key) + self.semitones;
-        while moved > 127 {
-            moved = octave_off(moved);
-        }
-        while moved < 0 {
-            moved = octave_on(moved);
+        while moved < 0 || moved > 127 {
+            moved = octave_nearer(moved);
         }
         moved as u8
+    }
+}
+
+// The shift of a number of semitones, if it is one.
+impl TryFrom<i32> for Shift {
+    type Error = Cause;
+
+    ghost try_from_gives = { ShiftOf };
+
+    fn try_from(semitones: i32) -> Result<Shift, Cause> {
+        if (-48..=48).contains(&semitones) {
+            Ok(Shift { semitones })
+        } else {
+            Err(Cause::ValueOutOfRange)
+        }
     }
 }

@@ -6,9 +6,8 @@ ghost use Rattle.std.proofs.Common.{rules};
 
 use crate::shift::Shift;
 use crate::transposer::Transposer;
-use sink::fault::refusal::{raise, raise_ticket};
+use sink::calls::{ControlChange, NoteOn, Setting};
 use sink::fault::{Cause, LayerFault};
-use sink::ranges::{is_startable, is_tellable};
 use sink::sink::Sink;
 
 impl<S: Sink> Transposer<S> {
@@ -54,26 +53,21 @@ impl<S: Sink> Sink for Transposer<S> {
 
     ghost completes = { Prim.search rules };
 
+    // Handed on, as are `sounds`, `hush` and `clear`: Rust has no delegation, and the gate refuses an impl that a macro writes.
     fn ready(&self) -> Result<(), LayerFault<S::Fault>> {
-        raise(self.below.ready())
+        Ok(self.below.ready()?)
     }
 
     fn sounds(&self, ticket: u16) -> bool {
         self.below.sounds(ticket)
     }
 
-    fn start(
-        &mut self,
-        place: u64,
-        channel: u8,
-        key: u8,
-        velocity: u8,
-    ) -> Result<u16, LayerFault<S::Fault>> {
-        if !is_startable(channel, key, velocity) {
+    fn start(&mut self, place: u64, note: NoteOn) -> Result<u16, LayerFault<S::Fault>> {
+        if !note.is_startable() {
             return Err(LayerFault::Own(Cause::OutOfRange));
         }
-        let moved = self.shift.moved(key);
-        raise_ticket(self.below.start(place, channel, moved, velocity))
+        let key = self.shift.moved(note.key);
+        Ok(self.below.start(place, NoteOn { key, ..note })?)
     }
 
     fn release(
@@ -85,44 +79,35 @@ impl<S: Sink> Sink for Transposer<S> {
         if velocity > 127 {
             return Err(LayerFault::Own(Cause::OutOfRange));
         }
-        raise(self.below.release(place, ticket, velocity))
+        Ok(self.below.release(place, ticket, velocity)?)
     }
 
     fn hush(&mut self, place: u64, ticket: u16) -> Result<(), LayerFault<S::Fault>> {
-        raise(self.below.hush(place, ticket))
+        Ok(self.below.hush(place, ticket)?)
     }
 
-    fn tell(
-        &mut self,
-        place: u64,
-        channel: u8,
-        controller: u8,
-        value: u8,
-    ) -> Result<(), LayerFault<S::Fault>> {
-        if !is_tellable(channel, controller, value) {
+    fn tell(&mut self, place: u64, change: ControlChange) -> Result<(), LayerFault<S::Fault>> {
+        if !change.is_tellable() {
             return Err(LayerFault::Own(Cause::TellOutOfRange));
         }
-        raise(self.below.tell(place, channel, controller, value))
+        Ok(self.below.tell(place, change)?)
     }
 
-    fn set(
-        &mut self,
-        place: u64,
-        depth: u32,
-        item: u32,
-        value: i32,
-    ) -> Result<(), LayerFault<S::Fault>> {
-        if depth != 0 {
-            return raise(self.below.set(place, depth - 1, item, value));
+    fn set(&mut self, place: u64, setting: Setting) -> Result<(), LayerFault<S::Fault>> {
+        if let Some(below) = setting.below() {
+            return Ok(self.below.set(place, below)?);
         }
-        if item != 0 {
+        if setting.item != 0 {
             return Err(LayerFault::Own(Cause::NoSuchItem));
         }
-        let Some(shift) = Shift::of(value) else {
-            return Err(LayerFault::Own(Cause::ValueOutOfRange));
-        };
-        self.shift = shift;
-        Ok(())
+        // `map_err` was tried: the checker has no rule for a closure whose result names `S::Fault`.
+        match Shift::try_from(setting.value) {
+            Ok(shift) => {
+                self.shift = shift;
+                Ok(())
+            }
+            Err(cause) => Err(LayerFault::Own(cause)),
+        }
     }
 
     fn clear(&mut self, place: u64) {

@@ -16,5 +16,5 @@ returns c =
         lines_are = ap vec_items out.lines;
       };
       within = out.within;
-      exact = λ room. ap₂ take out.written (ap vec_items out.lines) ∙ logged _ _ (vec_items c.args.lines) c.exam_stack.result c.play.result new.new new.rests (omega (arith, c.args.lines.ok.0)) c.play.ensures;
+      exact = λ room. ap₂ take out.written (ap vec_items out.lines) ∙ logged _ _ (λ _ _ _ _ d. d) (vec_items c.args.lines) c.exam_stack.result c.play.result new.new new.rests (omega (arith, c.args.lines.ok.0)) c.play.ensures;
     }

@@ -1,11 +1,14 @@
-use Rattle.std.proofs.Common.{◌||◌, sym, ap, ◌∙◌, ap₂}
-use Rattle.std.proofs.lemmas.List.{take_all}
-use Rattle.exam_table.specs.Speaking.{stopped}
-use Rattle.exam_table.proofs.More.{stopped_more}
+use Rattle.std.proofs.Common.{◌||◌, refl, ◌∙◌, rules, tests}
+use Rattle.std.specs.List.{list_any}
+use Rattle.std.proofs.lemmas.Iterator.{YieldsList-from_slice}
+use Rattle.std.proofs.lemmas.Iterator.Search.{any_from_yields_List}
+use Rattle.std.proofs.lemmas.List.Recursion.{same_from_clauses}
+use Rattle.exam_table.specs.Speaking.{stops_before, stopped}
 use Rattle.exam_table.proofs.speaking.is_stopped.Goals as goal
 
-pub loop-line-preserved : goal.loop-line-preserved
-loop-line-preserved c = ap₂ ◌||◌ c.loop-line.invariant c.stops-stopped.ensures ∙ sym (stopped_more c.args.end c.args.serial c.args.lines.now c.loop-line.line-index _ c.loop-line-test.true)
-
 pub returns : goal.returns
-returns c = c.loop-line.invariant ∙ ap (stopped c.args.end c.args.serial) (take_all _ _ c.loop-line-test.false)
+returns c =
+    let lines = c.args.lines.now in
+    let stops = stops_before c.args.end c.args.serial in
+    any_from_yields_List stops _ _ _ c.any.ensures.ran (YieldsList-from_slice lines cc) (λ x b q k. search (rules, tests))
+    ∙ same_from_clauses (list_any stops) (stopped c.args.end c.args.serial) (λ line later. stops line || later) refl (λ _ _. refl) (λ _ _. refl) lines

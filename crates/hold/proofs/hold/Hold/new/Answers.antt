@@ -1,20 +1,11 @@
-use Rattle.std.proofs.Common.{◌≡◌, [], sym, ap, ◌∙◌, subst}
-use Rattle.sink.specs.Meaning.{Idle}
-use Rattle.rolled.specs.Rolled.{notes_of}
 use Rattle.rolled.proofs.Onward.{marked_owns, new_idle}
 use Rattle.hold.specs.Law.{hold_new}
 use Rattle.hold.proofs.hold.Hold.new.Goals as goal
 
-pub returns : goal.returns
-returns g c =
-    let over = c.over.result in
-    let below : over.rolled.below ≡ c.args.below = ap (λ r. r.below) c.over.ensures.rolled ∙ c.new.ensures.below in
-    let roll : notes_of over.rolled ≡ [] = ap notes_of c.over.ensures.rolled ∙ c.new.ensures.roll in
-    let idle = λ (i : Idle (g.S.Sink.meaning c.args.below)). subst (λ x. Idle (g.S.Sink.meaning x)) (sym below) i in
-    record {
-      below = below;
-      roll = roll;
-      pedals = c.over.ensures.pedals;
-      sound = λ h i. hold_new g.S.Sink.meaning g.S.Sink.sound over roll (idle i) (subst g.S.Sink.sound (sym below) h);
-      idle = λ i. new_idle g.S.Sink.meaning g.S.Sink.sound over.rolled roll (idle i) marked_owns;
-    }
+pub returns-clause-sound : goal.returns-clause-sound
+returns-clause-sound g c =
+    λ h i. hold_new g.S.Sink.meaning g.S.Sink.sound _ c.new.ensures.roll (rw c.new.ensures.below i) (rw c.new.ensures.below h)
+
+pub returns-clause-idle : goal.returns-clause-idle
+returns-clause-idle g c =
+    λ i. new_idle g.S.Sink.meaning g.S.Sink.sound c.new.result c.new.ensures.roll (rw c.new.ensures.below i) marked_owns

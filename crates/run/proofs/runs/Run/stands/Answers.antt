@@ -3,6 +3,5 @@ use Rattle.run.proofs.runs.Run.stands.Goals as goal
 
 pub returns : goal.returns
 returns g c bytes es past =
-    let sink = g.S.Sink in
     let met = g.met.S.Sink in
-    (no_note_left sink g.S.Fault.Refusal g.S.Fault.Refusal.denial sink.meaning sink.sound sink.does (record { orderly = met.orderly; stays = met.stays; means = met.means }) sink.ends met.cleanly met.completes c.args.self.now bytes es past).0
+    (no_note_left g.S.Sink g.S.Fault.Refusal (record { orderly = met.orderly; stays = met.stays; means = met.means; cleanly = met.cleanly; completes = met.completes }) c.args.self.now bytes es past).0

@@ -1,12 +1,5 @@
-use Rattle.std.proofs.Common.{Ok, Err, refl}
 use Rattle.scripting.proofs.Pasts.{fed_past}
 use Rattle.scripting.proofs.console.Console.feed.Goals as goal
 
 pub invariant_of-self : goal.invariant_of-self
 invariant_of-self c = record { played = fed_past c.args.self.now.run c.feed.new.self c.args.bytes.now c.feed.result c.feed.ensures c.args.self.now.played }
-
-pub returns-in-Ok : goal.returns-in-Ok
-returns-in-Ok c = record { taken = Ok tt; feeds = c.in-Ok.ensures; answer = refl }
-
-pub returns-in-Err : goal.returns-in-Err
-returns-in-Err c = record { taken = Err _; feeds = c.in-Err.ensures; answer = refl }
