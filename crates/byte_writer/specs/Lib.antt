@@ -10,3 +10,4 @@ pub mod Holders
 pub mod Wrote
 pub mod Received
 pub mod Reading
+pub mod Places

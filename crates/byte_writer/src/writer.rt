@@ -11,6 +11,7 @@ pub struct ByteWriter {
     bytes: Buffer<u8>,
     roll: Roll,
     sounding: Sounding<Key>,
+    ghost most: { bytes.room ≤ 1000000000 },
     ghost reserved: { bytes.written + 3 * sounding.count ≤ bytes.room },
 }
 

@@ -18,7 +18,7 @@ module _ {T : Type 0} where
       ∙ drop-drop n (i + length ys) xs
 
   -- items and then more items
-  more_written : (i : ℕ) (ys zs xs : List T) → i ≤ length xs → written_at (i + length ys) zs (written_at i ys xs) ≡ written_at i (ys ++ zs) xs
+  pub more_written : (i : ℕ) (ys zs xs : List T) → i ≤ length xs → written_at (i + length ys) zs (written_at i ys xs) ≡ written_at i (ys ++ zs) xs
   more_written i ys zs xs h =
       ap₂ (λ f r. f ++ (zs ++ r)) (front_written i ys xs h) (rest_written i ys xs (length zs) h)
       ∙ append_assoc (take i xs) ys (zs ++ drop ((i + length ys) + length zs) xs)

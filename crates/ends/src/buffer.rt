@@ -8,7 +8,6 @@ pub struct Buffer<T> {
     room: usize,
     written: usize,
     ghost there: { room ≤ vec_len items },
-    ghost most: { room ≤ 1000000000 },
     ghost used: { written ≤ room },
 }
 

@@ -11,6 +11,9 @@ use sink::fault::Cause;
 
 pub mod buffer;
 
+// The most places that an end uses.
+pub const MOST: usize = 1_000_000_000;
+
 // Whether an end with this roll and so many spare places takes a start that needs so many, and else why not.
 pub fn check_start(roll: &Roll, spare: usize, need: usize) -> Result<(), Cause>
     ensures { result ≡ check_of (full (listed roll.now)) (nat_lt spare need) }

@@ -1,9 +1,9 @@
 -- What the roll's functions need of lists of notes.
-use Rattle.std.proofs.Common.{◌≡◌, ℕ, ◌+◌, ◌<◌, Bool, cond, not, eqb, List, [], ◌∷◌, ◌++◌, length, get_or, take, filter, position, Some, unwrap_or, option_map, refl, ap, arith, one-add, length-take, get_or-take}
+use Rattle.std.proofs.Common.{◌≡◌, ℕ, ◌+◌, ◌<◌, Bool, cond, not, eqb, List, [], ◌∷◌, ◌++◌, length, get_or, take, drop, filter, position, Some, unwrap_or, option_map, sym, refl, ap, ◌∙◌, arith, one-add, length-take, get_or-take}
 use Rattle.std.specs.List.{find, position_or_len}
 use lib.Seq.{take-set-lt}
 use Rattle.std.proofs.lemmas.Bool.Decides.{nat_tests}
-use Rattle.std.proofs.lemmas.List.{set_past}
+use Rattle.std.proofs.lemmas.List.{set_past, drop_more}
 use Rattle.std.proofs.lemmas.List.Elements.{filter_more}
 use Rattle.std.proofs.lemmas.List.Folds.{find_at}
 use Rattle.std.proofs.lemmas.Option.{slice_get-get_or, slice_get_past}
@@ -47,3 +47,17 @@ left_filter p (n ∷ ns) = grind (arith, nat_tests, left_filter p ns)
 
 pub left_more : (p : Note → Bool) (ns : List Note) (i : ℕ) (d : Note) → i < length ns → left_out p (take (i + 1) ns) ≡ left_out p (take i ns) ++ cond (p (get_or ns i d)) [] (get_or ns i d ∷ [])
 left_more p ns i d h = grind (arith, nat_tests, left_filter, filter_more (λ n. not (p n)) ns i d h)
+
+-- where two tables agree from a place on: they agree behind it, and one note more
+module _ (p : Note → Bool) (ns xs : List Note) (i : ℕ) (there : i < length xs) (here : i < length ns) (rest : drop i xs ≡ drop i ns) where
+  both : (get_or xs i blank ∷ drop (i + 1) xs) ≡ (get_or ns i blank ∷ drop (i + 1) ns)
+  both = sym (drop_more xs i blank there) ∙ rest ∙ drop_more ns i blank here
+
+  pub rest_next : drop (i + 1) xs ≡ drop (i + 1) ns
+  rest_next = ap (drop 1) both
+
+  pub left_next : (b : Bool) → b ≡ p (get_or xs i blank) → left_out p (take (i + 1) ns) ≡ left_out p (take i ns) ++ cond b [] (get_or xs i blank ∷ [])
+  left_next b e =
+      left_more p ns i blank here
+      ∙ ap (λ n. left_out p (take i ns) ++ cond (p n) [] (n ∷ [])) (sym (ap (λ l. get_or l 0 blank) both))
+      ∙ ap (λ c. left_out p (take i ns) ++ cond c [] (get_or xs i blank ∷ [])) (sym e)

@@ -1,6 +1,7 @@
 -- Folding leads to a key, and to one only.
-use Rattle.std.specs.Prelude.{◌≡◌, ℕ, ◌≤◌, ℤ, pos, negsuc, ◌≤ℤ◌, unsigned_abs, refl}
-use Rattle.std.proofs.Common.{arith}
+use Rattle.std.specs.Prelude.{◌≡◌, ℕ, ◌<◌, ◌≤◌, true, ℤ, pos, negsuc, ◌+ℤ◌, ◌-ℤ◌, ◌≤ℤ◌, int_lt, unsigned_abs, refl}
+use Rattle.std.proofs.Common.{arith, to_z, of_z}
+use Rattle.std.specs.Int.{w32}
 use Rattle.std.proofs.lemmas.Int.{ints}
 use Rattle.transposer.specs.Shift.{Folds, a_key, an_octave_off, an_octave_on}
 
@@ -22,6 +23,17 @@ one_key (an_octave_off h f) (an_octave_on h' g) = absurd (omega (arith, ints))
 one_key (an_octave_on h f) (a_key g) = absurd (omega (arith, ints))
 one_key (an_octave_on h f) (an_octave_off h' g) = absurd (omega (arith, ints))
 one_key (an_octave_on h f) (an_octave_on h' g) = one_key f g
+
+-- An octave nearer from above and from below, the number held in 32 bits: each is a step down in size.
+module _ (n : ℕ) where
+  abbrev x : ℤ
+  x = to_z w32 n
+
+  pub off_less : int_lt (pos 127) x ≡ true → unsigned_abs (to_z w32 (of_z w32 (x -ℤ pos 12))) < unsigned_abs x
+  off_less h = omega (arith, ints)
+
+  pub on_less : int_lt x (pos 0) ≡ true → unsigned_abs (to_z w32 (of_z w32 (x +ℤ pos 12)) -ℤ pos 12) < unsigned_abs (x -ℤ pos 12)
+  on_less h = omega (arith, ints)
 
 pub itself : (x : ℤ) → pos 0 ≤ℤ x → x ≤ℤ pos 127 → Folds x (unsigned_abs x)
 itself (pos k) lo hi = a_key (omega (arith, ints))

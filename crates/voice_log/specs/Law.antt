@@ -53,8 +53,8 @@ module _ (s : VoiceLog) (a : Answer Cause) (t : VoiceLog) (h : LogSound s) where
   abbrev Holds : Call → Type 0
   Holds c = Means here log_meaning s c a t × LogSound t
 
-  begins_law : (p c k v : ℕ) → startable c k v ≡ true → log_check s ≡ Ok tt → Begins p c k v s a t → Holds (Start p c k v)
-  begins_law p c k v e ok d =
+  begins_sound : (p c k v : ℕ) → Begins p c k v s a t → LogSound t
+  begins_sound p c k v d =
       let i = d.number in
       let n = new_note i c k v in
       let xs = serials s in
@@ -62,22 +62,35 @@ module _ (s : VoiceLog) (a : Answer Cause) (t : VoiceLog) (h : LogSound s) where
       let long : length xs ≡ 128 = s.sounding.long in
       let lt = d.small in
       let silent : serial_of s i ≡ None = is_none (serial_of s i) (refuted (is_some (serial_of s i)) (lists (notes s) i) (h.order.within i) d.fresh) in
-      let line = begun_line p c k v s in (
+      let line = begun_line p c k v s in
+      record {
+        order = subst (λ ns. InOrder ns (serials t)) (sym d.roll) (begun_order (notes s) xs xs (serials t) n serial h.order d.small d.fresh long (λ u f. f) d.serials);
+        told = subst (λ ls. Told ls (serials t)) (sym (pushed_front line s.lines t.lines d.line)) (subst (Told (written_lines s ++ (line ∷ []))) (sym d.serials) (told_begun (written_lines s) line xs h.told i refl refl (omega arith) silent));
+      }
+
+  begins_law : (p c k v : ℕ) → startable c k v ≡ true → log_check s ≡ Ok tt → Begins p c k v s a t → Holds (Start p c k v)
+  begins_law p c k v e ok d =
+      let n = new_note d.number c k v in
+      let xs = serials s in
+      let serial = begun_count (written_lines s) in
+      let long : length xs ≡ 128 = s.sounding.long in (
         subst (λ x. Means here log_meaning s (Start p c k v) x t) (sym d.answer) (e, end_began (notes s) (notes t) xs (serials t) long (log_check s) (log_check t) xs n serial ok d.small d.fresh d.roll long (λ u f. f) d.serials),
-        record {
-          order = subst (λ ns. InOrder ns (serials t)) (sym d.roll) (begun_order (notes s) xs xs (serials t) n serial h.order d.small d.fresh long (λ u f. f) d.serials);
-          told = subst (λ ls. Told ls (serials t)) (sym (pushed_front line s.lines t.lines d.line)) (subst (Told (written_lines s ++ (line ∷ []))) (sym d.serials) (told_begun (written_lines s) line xs h.told i refl refl (omega arith) silent));
-        },
+        begins_sound p c k v d,
       )
+
+  ends_sound : (p u v : ℕ) (n : Note) → found u (notes s) ≡ Some n → Ends p u v n s a t → LogSound t
+  ends_sound p u v n f d =
+      let out = owed_note (notes s) u (Some n) f in
+      record {
+        order = subst (λ ns. InOrder ns (serials t)) (sym d.roll) (ended_order (notes s) (serials s) (serials t) u h.order (h.order.small u out) s.sounding.long d.serials);
+        told = stop_told s t u p Ended n v d.serials (serial_of s u) refl refl d.line h.told;
+      }
 
   ends_law : (p u v : ℕ) (n : Note) → nat_le v 127 ≡ true → found u (notes s) ≡ Some n → Ends p u v n s a t → Holds (Release p u v)
   ends_law p u v n e f d =
       let out = owed_note (notes s) u (Some n) f in (
         subst (λ x. Means here log_meaning s (Release p u v) x t) (sym d.answer) (e, end_ended (notes s) (notes t) (serials s) (serials t) s.sounding.long (nat_lt (spare s) 2) (nat_lt (spare t) 2) u h.order out d.roll d.serials (ap (λ x. ltb x 2) (stop_spare s t u p Ended n v d.serials (serial_of s u) refl d.line))),
-        record {
-          order = subst (λ ns. InOrder ns (serials t)) (sym d.roll) (ended_order (notes s) (serials s) (serials t) u h.order (h.order.small u out) s.sounding.long d.serials);
-          told = stop_told s t u p Ended n v d.serials (serial_of s u) refl refl d.line h.told;
-        },
+        ends_sound p u v n f d,
       )
 
   hushes_law : (p u : ℕ) (n : Note) → found u (notes s) ≡ Some n → Hushes p u n s a t → Holds (Hush p u)

@@ -1,7 +1,7 @@
 -- One line more.
 use Rattle.std.specs.Prelude.{◌≡◌, ℕ, ◌+◌, ◌<◌, ◌≤◌, Bool, true, false, not, ◌&&◌, List, [], ◌∷◌, ◌++◌, length, take, replicate, Some, None, vec_items, Option, ◌==◌, ◌≢◌, nat_le, nat_lt, slice_set, refl}
 use Rattle.std.proofs.Common.{sym, ap, ap₂, subst, ◌∙◌, arith, ne_eqb, leb-true, leb-false, le-ltb, length-append, length-take-le}
-use Rattle.std.proofs.lemmas.List.{take_all, take-append-le}
+use Rattle.std.proofs.lemmas.List.{take_more_set, take_all, take-append-le}
 use Rattle.std.proofs.lemmas.Bool.Decides.{nat_tests}
 use Rattle.roll.specs.Voices.{one, voice, passes}
 use Rattle.roll.proofs.Tallies.{one_le, at_some, with_set, with_gone, with_none}
@@ -34,11 +34,18 @@ begun_count_le [] = omega arith
 begun_count_le (l ∷ ls) = let e = begun_count_le ls in let o = one_le (is_begun l.kind) in omega arith
 
 -- there are no more begun lines than lines
-pub begun_within : (b : Buffer Line) → begun_count (front b) ≤ b.written
-begun_within b = let e = length-take-le b.written (vec_items b.items) (within b) in let k = begun_count_le (front b) in omega arith
+pub begun_within : (items : List Line) (w : ℕ) → w ≤ length items → begun_count (take w items) ≤ w
+begun_within items w h = let e = length-take-le w items h in let b = begun_count_le (take w items) in omega arith
 
-pub begun_next : (l : Line) (b c : Buffer Line) → Pushed l b c → begun_count (front c) ≡ begun_count (front b) + one (is_begun l.kind)
-begun_next l b c w = ap begun_count (pushed_front l b c w) ∙ begun_count_snoc (front b) l
+pub begun_next : (items : List Line) (w : ℕ) (l : Line) → w < length items → begun_count (take (w + 1) (slice_set items w l)) ≡ begun_count (take w items) + one (is_begun l.kind)
+begun_next items w l h = ap begun_count (take_more_set items w l h) ∙ begun_count_snoc (take w items) l
+
+-- the same of what is written to a buffer
+pub front_within : (b : Buffer Line) → begun_count (front b) ≤ b.written
+front_within b = begun_within (vec_items b.items) b.written (within b)
+
+pub front_next : (l : Line) (b c : Buffer Line) → Pushed l b c → begun_count (front c) ≡ begun_count (front b) + one (is_begun l.kind)
+front_next l b c w = ap begun_count (pushed_front l b c w) ∙ begun_count_snoc (front b) l
 
 clean_part : (ls : List Line) (l : Line) (k n : ℕ) (b : Bool) → nat_le k (length ls) ≡ b → Clean ls → (begins n (ls ++ (l ∷ [])) ≤ 1) × (stops n (ls ++ (l ∷ [])) ≤ begins n (ls ++ (l ∷ []))) → (begins n (take k (ls ++ (l ∷ []))) ≤ 1) × (stops n (take k (ls ++ (l ∷ []))) ≤ begins n (take k (ls ++ (l ∷ []))))
 clean_part ls l k n true e c h = let le : k ≤ length ls = leb-true k (length ls) e in subst (λ r. (begins n r ≤ 1) × (stops n r ≤ begins n r)) (sym (take-append-le k ls (l ∷ []) le)) (c k n)

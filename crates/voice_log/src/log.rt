@@ -13,6 +13,7 @@ pub struct VoiceLog {
     begun: u32,
     roll: Roll,
     sounding: Sounding<u32>,
+    ghost most: { lines.room ≤ 1000000000 },
     ghost counted: { begun ≡ begun_count (take lines.written lines.items.items) },
     ghost reserved: { lines.written + sounding.count ≤ lines.room },
 }

@@ -14,6 +14,7 @@ use crate::message::NoteMessage;
 use crate::strike::Strike;
 use crate::writer::ByteWriter;
 use crate::writer::writing::HUSHED;
+use ends::MOST;
 use ends::buffer::Buffer;
 use roll::note::Pick;
 use roll::roll::Roll;
@@ -35,7 +36,7 @@ impl ByteWriter {
         ensures idle { Idle (writer_meaning result) }
     {
         ByteWriter {
-            bytes: Buffer::new(bytes),
+            bytes: Buffer::new(bytes, MOST),
             roll: Roll::new(),
             sounding: Sounding::new(),
         }

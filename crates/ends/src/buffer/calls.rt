@@ -3,17 +3,14 @@ ghost use Rattle.ends.specs.Buffers.{Pushed, Appended};
 
 use crate::buffer::Buffer;
 
-// The most places that a buffer uses.
-const MOST: usize = 1_000_000_000;
-
 impl<T: Copy> Buffer<T> {
-    // A buffer over these places, of which it uses the first 1,000,000,000 at most.
-    pub fn new(items: Vec<T>) -> Buffer<T>
+    // A buffer over these places, of which it uses the first `most` at most.
+    pub fn new(items: Vec<T>, most: usize) -> Buffer<T>
         ensures items { result.items ≡ items }
         ensures written { result.written ≡ 0 }
-        ensures room { result.room ≡ min (vec_len items) 1000000000 }
+        ensures room { result.room ≡ min (vec_len items) most }
     {
-        let room = items.len().min(MOST);
+        let room = items.len().min(most);
         Buffer {
             items,
             room,

@@ -1,4 +1,4 @@
-ghost use Rattle.std.specs.Prelude.{◌≡◌, ℕ, ◌<◌, ◌≤◌, true, false, [], ◌∷◌, ◌++◌, take, IfSome, option_map, unwrap_or, slice_index_or};
+ghost use Rattle.std.specs.Prelude.{◌≡◌, ℕ, ◌+◌, ◌<◌, ◌≤◌, true, false, [], ◌∷◌, ◌++◌, take, IfSome, option_map, unwrap_or, slice_index_or, slice_set};
 ghost use Rattle.roll.specs.Notes.{found, picked, left_out, marked, marked_at, blank, full, added, lists};
 ghost use Rattle.roll.specs.Rolls.{listed};
 
@@ -61,7 +61,9 @@ impl Roll {
 
     fn push(&mut self, note: Note)
         requires { self.old.count < 128 }
-        ensures { listed self.new ≡ listed self.old ++ (note ∷ []) }
+        ensures listed { listed self.new ≡ listed self.old ++ (note ∷ []) }
+        ensures count { self.new.count ≡ self.old.count + 1 }
+        ensures notes { self.new.notes ≡ slice_set self.old.notes self.old.count note }
     {
         self.notes[self.count] = note;
         self.count += 1;
@@ -90,12 +92,13 @@ impl Roll {
     pub fn drop_picked(&mut self, pick: Pick)
         ensures { listed self.new ≡ left_out (picked pick) (listed self.old) }
     {
-        let notes = self.notes;
+        // By index, so that the table is not copied at each release: a note is read before its place is written.
         let count = self.count;
         self.count = 0;
-        for note in &notes[..count] {
-            if !pick.takes(*note) {
-                self.push(*note);
+        for i in 0..count {
+            let entry = self.notes[i];
+            if !pick.takes(entry) {
+                self.push(entry);
             }
         }
     }

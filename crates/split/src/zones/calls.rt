@@ -1,4 +1,4 @@
-ghost use Rattle.std.specs.Prelude.{◌≡◌, true, false, pos, MatchResult};
+ghost use Rattle.std.specs.Prelude.{◌≡◌, true, false, pos, MatchOption, MatchResult};
 ghost use Rattle.sink.specs.Calls.{within};
 ghost use Rattle.split.specs.Zones.{AllZero, side, sent_to, is_value, Changed, ZonesSet};
 ghost use Rattle.sink.specs.declared.fault.Cause.TheVariants.{ValueOutOfRange};
@@ -53,5 +53,18 @@ impl Zones {
             _ => return Err(Cause::NoSuchItem),
         }
         Ok(())
+    }
+
+    // The zones with an item set, if the value lies in its range. They have no item past 3: such a one changes nothing.
+    pub fn with(self, item: u32, value: i32) -> Option<Zones>
+        ensures { MatchOption result (is_value item value ≡ false) (λ z. (is_value item value ≡ true) × Changed item value self z) }
+    {
+        if item > 3 {
+            number_within(value, 0, 15)?;
+            return Some(self);
+        }
+        let mut zones = self;
+        zones.set(item, value).ok()?;
+        Some(zones)
     }
 }

@@ -9,6 +9,7 @@ ghost use Rattle.voice_log.specs.Written.{told_stop};
 
 use crate::line::{Kind, Line};
 use crate::log::VoiceLog;
+use ends::MOST;
 use ends::buffer::Buffer;
 use roll::note::{Note, Pick};
 use roll::roll::Roll;
@@ -29,7 +30,7 @@ impl VoiceLog {
         ensures idle { Idle (log_meaning result) }
     {
         VoiceLog {
-            lines: Buffer::new(lines),
+            lines: Buffer::new(lines, MOST),
             begun: 0,
             roll: Roll::new(),
             sounding: Sounding::new(),

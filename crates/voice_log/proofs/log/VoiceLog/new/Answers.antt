@@ -7,7 +7,7 @@ use Rattle.voice_log.proofs.log.VoiceLog.new.Goals as goal
 
 pub invariant_of-result : goal.invariant_of-result
 unfolding begun_count
-invariant_of-result c = record { counted = sym (ap (λ w. begun_count (take w (vec_items c.new.result.items))) c.new.ensures.written); reserved = omega arith }
+invariant_of-result c = record { most = omega arith; counted = sym (ap (λ w. begun_count (take w (vec_items c.new.result.items))) c.new.ensures.written); reserved = omega arith }
 
 pub returns-clause-sound : goal.returns-clause-sound
 returns-clause-sound c = record {
